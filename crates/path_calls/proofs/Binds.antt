@@ -7,9 +7,9 @@ use Rattle.model.specs.State.{Kernel, A_directory, A_link}
 use Rattle.model.specs.Plan.{Errno as Refused, EINVAL, EISDIR, ENAMETOOLONG, ENOENT, ENOTDIR, ENOTEMPTY, Plan, Give, Refuse, Ask, List_names, Count_links, ◌>>=◌, ◌>>◌, ask, refuse_if}
 use Rattle.model.specs.Walks.{Place, Last, is_directory, parsed, walk, last_of}
 use Rattle.model.specs.Paths.{is_empty}
-use Rattle.model.specs.Calls.{Done, Stated}
+use Rattle.model.specs.Calls.{Done}
 use Rattle.model.specs.Changes.{Move, Replaced}
-use Rattle.model.specs.Plans.{Change, changed, unchanged, status, moved, replaced_by_name}
+use Rattle.model.specs.Plans.{Change, changed, unchanged, stated, status, moved, replaced_by_name}
 use Rattle.model.specs.Steps.{Touch}
 use Rattle.ids.specs.declared.errno.Refusal.{Refusal}
 use Rattle.look.specs.Asked.{Comes}
@@ -54,7 +54,7 @@ tested_then target g = three_then (is_empty target) (nat_lt target_limit (length
 
 -- what a symbolic link is like, by its target's length and by how many names it has
 abbrev pub link_with : ℕ → ℕ → ℕ → Plan Change
-link_with n size links = unchanged (Stated (record { kind = A_link; num = n; size = size; links = links }))
+link_with n size links = stated A_link n size links
 
 abbrev pub link_of : ℕ → ℕ → Plan Change
 link_of n size = ask (Count_links n) >>= link_with n size

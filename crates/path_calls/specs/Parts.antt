@@ -9,8 +9,8 @@ use Rattle.model.specs.Plan.{EINVAL, EPERM, List_names, Count_links, Read_target
 use Rattle.model.specs.Plan.{◌>>=◌, ◌>>◌, refuse_if, or_refuse}
 use Rattle.model.specs.Walks.{Place, Last, is_directory, parsed, walk, last_of}
 use Rattle.model.specs.Changes.{Name_file, Make_fixed, Replaced, Over_nothing}
-use Rattle.model.specs.Calls.{Done, Stated}
-use Rattle.model.specs.Plans.{Change, changed, unchanged, absent, moved, replaced_by_name}
+use Rattle.model.specs.Calls.{Done}
+use Rattle.model.specs.Plans.{Change, changed, absent, moved, replaced_by_name, stated}
 use Rattle.model.specs.Paths.{is_empty, is_below}
 
 -- the place that a path leads to, and where its last name stands
@@ -46,7 +46,7 @@ without_names dir = do
 abbrev pub status_of_name : ℕ → Kind → Plan Change
 status_of_name n kind = do
   links ← ask (Count_links n)
-  unchanged (Stated (record { kind = kind; num = n; size = 0; links = links }))
+  stated kind n 0 links
 
 -- the tests of a symbolic link's target
 abbrev pub target_tested : List ℕ → Plan ⊤

@@ -1,9 +1,9 @@
 // The questions about what paths lead to, each with what it reads.
 ghost use Rattle.path_calls.specs.Parts.{has_no_names, target_length};
-ghost use Rattle.model.specs.Plan.{ask, List_names, Measure, Count_links, Read_target};
+ghost use Rattle.model.specs.Plan.{ask, List_names, Measure, Count_links, Read_target, Find_rights};
 ghost use Rattle.look.specs.Asked.{Comes};
 
-use ids::{Aspect, Bytes, NameList, Num, Refusal};
+use ids::{Aspect, Bytes, NameList, Num, Refusal, Rights};
 use look::Look;
 use walk::Reads;
 
@@ -45,6 +45,14 @@ pub(crate) fn target<L: Look>(look: &L, link: Num, reads: &mut Reads) -> Result<
 {
     reads.add(Aspect::Target(link))?;
     Ok(look.target(reads.heap(), link)?)
+}
+
+// The permissions and the owner of an object.
+pub(crate) fn rights<L: Look>(look: &L, inode: Num, reads: &mut Reads) -> Result<Rights, Refusal>
+    ensures { Comes (L.state look.now) (ask (Find_rights inode)) reads.old result reads.new }
+{
+    reads.add(Aspect::Rights(inode))?;
+    Ok(look.rights(inode))
 }
 
 // The length of a symbolic link's target.

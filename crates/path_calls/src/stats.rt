@@ -1,14 +1,13 @@
 // What an object is like.
 ghost use Rattle.std.specs.Prelude.{ℕ, Some};
-ghost use Rattle.model.specs.Plans.{plan, unchanged, status};
+ghost use Rattle.model.specs.Plans.{plan, stated, status};
 ghost use Rattle.path_calls.specs.Parts.{status_of_name};
-ghost use Rattle.model.specs.Calls.{own, Stated, Stat as Stat_path, Lstat};
-ghost use Rattle.look.specs.Asked.{Comes, Tells};
+ghost use Rattle.model.specs.Calls.{own, Stat as Stat_path, Lstat};
+ghost use Rattle.look.specs.Asked.{Comes};
 
-use crate::asking::{links, size, target_length};
+use crate::asking::{links, rights, size, target_length};
 use crate::change::{Change, unchanged};
 use crate::paths::place_at;
-use heap::Heap;
 use ids::{Answer, Bytes, Errno, Kind, Num, Refusal, Stat};
 use look::Look;
 use walk::{Reads, must_not_be_link};
@@ -35,14 +34,14 @@ fn status_of<L: Look>(look: &L, num: Num, kind: Kind, reads: &mut Reads) -> Resu
         Kind::File => {
             let size = size(look, num, reads)?;
             let links = links(look, num, reads)?;
-            stated(reads.heap(), Kind::File, num, size, links)
+            stated(look, Kind::File, num, size, links, reads)
         }
-        Kind::Dir => stated(reads.heap(), Kind::Dir, num, 0, 1),
-        Kind::Pipe => stated(reads.heap(), Kind::Pipe, num, 0, 0),
+        Kind::Dir => stated(look, Kind::Dir, num, 0, 1, reads),
+        Kind::Pipe => stated(look, Kind::Pipe, num, 0, 0, reads),
         Kind::Link => {
             let size = target_length(look, num, reads)?;
             let links = links(look, num, reads)?;
-            stated(reads.heap(), Kind::Link, num, size, links)
+            stated(look, Kind::Link, num, size, links, reads)
         }
         Kind::Fifo => status_of_name(look, num, Kind::Fifo, reads),
         Kind::Socket => status_of_name(look, num, Kind::Socket, reads),
@@ -59,20 +58,29 @@ fn status_of_name<L: Look>(
     ensures { Comes (L.state look.now) (status_of_name num kind) reads.old result reads.new }
 {
     let links = links(look, num, reads)?;
-    stated(reads.heap(), kind, num, 0, links)
+    stated(look, kind, num, 0, links, reads)
 }
 
-fn stated(heap: Heap, kind: Kind, num: Num, size: u32, links: u32) -> Result<Change, Refusal>
-    ensures { Tells (unchanged
-        (Stated (record { kind = kind; num = num; size = size; links = links }))) result }
+// With its permissions and its owner, which are asked for last.
+fn stated<L: Look>(
+    look: &L,
+    kind: Kind,
+    num: Num,
+    size: u32,
+    links: u32,
+    reads: &mut Reads,
+) -> Result<Change, Refusal>
+    ensures { Comes (L.state look.now) (stated kind num size links) reads.old result reads.new }
 {
+    let rights = rights(look, num, reads)?;
     unchanged(
-        heap,
+        reads.heap(),
         Answer::Stat(Stat {
             kind,
             num,
             size,
             links,
+            rights,
         }),
     )
 }
