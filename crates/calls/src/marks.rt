@@ -148,6 +148,7 @@ fn mark(edit: &Edit, touches: &mut Touches) -> Result<(), AllocError>
         Edit::Take { pipe, .. } => touches.write(Aspect::Front(*pipe)),
         Edit::Append { pipe, .. } => touches.write(Aspect::Back(*pipe)),
         Edit::SetOffset { description, .. } => touches.write(Aspect::Offset(*description)),
+        Edit::SetRights { inode, .. } => touches.write(Aspect::Rights(*inode)),
         Edit::ShareSlot { pipes, .. }
         | Edit::ClearSlot { pipes, .. }
         | Edit::NewProcess { pipes, .. }

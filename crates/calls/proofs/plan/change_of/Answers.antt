@@ -72,3 +72,15 @@ returns-in-Lstat g c = via (ap (λ call. plan (own (g.L.Look.state c.args.look.n
 
 pub returns-in-Mknod : goal.returns-in-Mknod
 returns-in-Mknod g c = via (ap (λ call. plan (own (g.L.Look.state c.args.look.now) c.args.pid call) call) c.in-Mknod.is) (c.mknod.ensures c.args.pid)
+
+pub returns-in-Chmod : goal.returns-in-Chmod
+returns-in-Chmod g c = via (ap (λ call. plan (own (g.L.Look.state c.args.look.now) c.args.pid call) call) c.in-Chmod.is) (c.chmod.ensures c.args.pid)
+
+pub returns-in-Chown : goal.returns-in-Chown
+returns-in-Chown g c = via (ap (λ call. plan (own (g.L.Look.state c.args.look.now) c.args.pid call) call) c.in-Chown.is) (c.chown.ensures c.args.pid)
+
+pub returns-in-Fchmod : goal.returns-in-Fchmod
+returns-in-Fchmod g c = via (ap (λ call. plan (own (g.L.Look.state c.args.look.now) c.args.pid call) call) c.in-Fchmod.is) c.fchmod.ensures
+
+pub returns-in-Fchown : goal.returns-in-Fchown
+returns-in-Fchown g c = via (ap (λ call. plan (own (g.L.Look.state c.args.look.now) c.args.pid call) call) c.in-Fchown.is) c.fchown.ensures
