@@ -6,7 +6,7 @@ use Rattle.std.specs.List.{AllByRecursion, list_any}
 use Rattle.model.specs.State.{A_file, A_directory, A_pipe, A_link, A_fifo, A_socket, Kernel}
 use Rattle.model.specs.Limits.{largest_file}
 use Rattle.model.specs.Plan.{Errno, Plan, Give, answer as answer_to, given, ◌>>=◌, ◌>>◌, ENOENT, ENOTDIR, ENOTEMPTY, EEXIST, EBUSY, EISDIR, EINVAL, ELOOP, ENAMETOOLONG, ENXIO, EBADF, EFBIG, EPERM, ESPIPE, EPIPE, EAGAIN, List_names, Count_ends, Find_offset, Read_pipe, Read_file, Fit, refuse_if, or_refuse}
-use Rattle.model.specs.Calls.{Call, Dup, Dup2, Open, Close, Read, Pread, Write, Pwrite, Lseek, Ftruncate, Truncate, Stat, Fstat, Link, Unlink, Rename, Mkdir, Rmdir, List_directory, Symlink, Readlink, Lstat, Mknod, Open_pipe, Fork, Exit, Descriptor, OpenFlags, Own, Slot, own}
+use Rattle.model.specs.Calls.{Call, Dup, Dup2, Open, Close, Read, Pread, Write, Pwrite, Lseek, Ftruncate, Truncate, Stat, Fstat, Link, Unlink, Rename, Mkdir, Rmdir, List_directory, Symlink, Readlink, Lstat, Mknod, Chmod, Chown, Fchmod, Fchown, Open_pipe, Fork, Exit, Descriptor, OpenFlags, Own, Slot, own}
 use Rattle.model.specs.Changes.{Edit, There, Open_inode, Set_offset, Put_bytes, Cut}
 use Rattle.model.specs.Paths.{is_empty, is_below}
 use Rattle.model.specs.Walks.{Place, Last, parsed, walk, last_of, is_directory, is_link}
@@ -135,6 +135,10 @@ planned k pid low (Symlink target path) = unless k (is_empty target) ENOENT _ (u
 planned k pid low (Readlink path) = after k (parsed path) _ (λ names. after k (walk (k.root, Some A_directory) names) _ (λ place. unless k (not (is_link place)) EINVAL _ tt))
 planned k pid low (Lstat path) = after k (parsed path) _ (λ names. after k (walk (k.root, Some A_directory) names) _ (tells k))
 planned k pid low (Mknod path special) = after k (parsed path) _ (λ names. after k (last_of k.root EEXIST names) _ (λ at. after k (absent at.found) _ (λ _. (tt, tt))))
+planned k pid low (Chmod path permissions) = after k (parsed path) _ (λ names. after k (walk (k.root, Some A_directory) names) _ (λ place. unless k (is_link place) ELOOP _ (tt, tt)))
+planned k pid low (Chown path owner) = after k (parsed path) _ (λ names. after k (walk (k.root, Some A_directory) names) _ (λ place. (tt, tt)))
+planned k pid low (Fchmod f permissions) = after k (slot (own k pid (Fchmod f permissions)) f) _ (λ it. (tt, tt))
+planned k pid low (Fchown f owner) = after k (slot (own k pid (Fchown f owner)) f) _ (λ it. (tt, tt))
 planned k pid low (Dup f) = after k (slot (own k pid (Dup f)) f) _ (λ it. shares k (own k pid (Dup f)) it (free (own k pid (Dup f))))
 planned k pid low (Dup2 f g) = after k (slot (own k pid (Dup2 f g)) f) _ (λ it. unless k (nat_lt 63 g) EBADF _ (either_given k Within (f == g) _ _ (λ _. tt) (λ _. (tt, tt))))
 planned k pid low Open_pipe = pairs k (own k pid Open_pipe) (free (own k pid Open_pipe))
