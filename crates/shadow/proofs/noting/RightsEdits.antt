@@ -1,10 +1,10 @@
 -- What patches take in of an edit of the rights of an inode.
-use Rattle.std.proofs.Common.{◌≡◌, ◌≢◌, ℕ, ◌≤◌, ◌==◌, cond, is_eq, nat_cmp, List, Option, Some, refl, sym, ap, ◌∙◌, arith, eq-eqb, ne_eqb, inl, inr, append-nil}
+use Rattle.std.proofs.Common.{◌≡◌, ℕ, ◌==◌, cond, is_eq, nat_cmp, List, Option, Some, refl, sym, ap, ◌∙◌, arith, eq-eqb, ne_eqb, inl, inr, append-nil}
 use Rattle.std.proofs.lemmas.Bool.{cases_eq}
 use Rattle.model.specs.State.{Rights}
 use Rattle.model.specs.Changes.{Set_rights}
 use Rattle.model.proofs.Laws.{tied, untied}
-use Rattle.shadow.specs.Patches.{Patches, added_by, kept_at, net_at, numbers_in, rights_over}
+use Rattle.shadow.specs.Patches.{Patches, kept_at, net_at, numbers_in, rights_over}
 use Rattle.shadow.specs.Notes.{AtRights, SamePatches}
 use Rattle.shadow.specs.Steps.{TakesIn}
 use Rattle.shadow.proofs.noting.InodeNotes.{as_written}

@@ -1,4 +1,4 @@
-use Rattle.std.proofs.Common.{◌≢◌, ap, ◌∙◌, Some, None}
+use Rattle.std.proofs.Common.{◌≢◌, Some, None}
 use Rattle.model.specs.FiniteMap as map
 use Rattle.store.proofs.Counted.{counted-set}
 use Rattle.store.proofs.Rows.{store-set}
