@@ -4,7 +4,7 @@ use Rattle.std.proofs.lemmas.Bool.{cases_eq}
 use Rattle.model.specs.FiniteMap.{empty, get}
 use Rattle.model.specs.Limits.{capacity}
 use Rattle.model.specs.State.{Directory, File, Fixed, Inode, Kernel, Pipe, pipe_of, pipe_of_inode}
-use Rattle.model.specs.Changes.{Edit, Made, Make_directory, Make_file, Make_fixed, Name_file, Unname_file, Unname_directory, Move, Put_bytes, Cut, Take, Append, Set_offset, Open_inode, Make_pipe, Share_slot, Clear_slot, New_process, End_process, all_applied, applied, clear_name, number, set_inode}
+use Rattle.model.specs.Changes.{Edit, Made, Make_directory, Make_file, Make_fixed, Name_file, Unname_file, Unname_directory, Move, Put_bytes, Cut, Take, Append, Set_offset, Set_rights, Open_inode, Make_pipe, Share_slot, Clear_slot, New_process, End_process, all_applied, applied, clear_name, number, set_inode}
 use Rattle.model.specs.Effects.{Effect, all_done}
 use Rattle.model.proofs.Laws.{get_same, get_other}
 use Rattle.call_laws.specs.Fits.{Fits, FitsAll}
@@ -43,6 +43,7 @@ module _ (p : ℕ) where
       let more : length (pipe_of k q ++ bytes) ≡ length (pipe_of k q) + length bytes = length-append (pipe_of k q) bytes in
       let low : length (pipe_of k q) + length bytes ≤ capacity = f.1 in omega arith) short
   one chosen k (Set_offset d place) f short = subst (λ (k : Kernel). length (pipe_of k p) ≤ capacity) (sym (set_there k d place f.0 f.1)) short
+  one chosen k (Set_rights n rights) f short = short
   one chosen k (Open_inode i inode how q s) can short = short
   one chosen k (Make_pipe i q f g) can short = set_short k (number chosen (Made i)) (Pipe []) (none (number chosen (Made i))) short
   one chosen k (Share_slot q f d pipes) can short = short
