@@ -10,7 +10,7 @@ use course::{
     write,
 };
 use heap::Heap;
-use ids::{Fd, Kind, Num, Special, Stat};
+use ids::{Fd, Kind, Num, Rights, Special, Stat};
 use machine::Machine;
 use std::fmt::Debug;
 use std::process::Abort;
@@ -129,6 +129,7 @@ fn spare(inode: Num) -> Made {
             num: inode,
             size: 0,
             links: 1,
+            rights: Rights::first(Some(Kind::File)),
         },
         is_new: false,
     }
