@@ -97,6 +97,7 @@ enum Inode {
 
 /// Who may do what with an inode, and whose it is.
 #[derive(Clone, Copy)]
+#[allow(dead_code)] // Replies keep it all.
 struct Rights {
     permissions: u16,
     user: u32,
