@@ -492,7 +492,7 @@ Tells told s later old new result = (result ≡ told) × (new ≡ old) × (later
 -- Requests on open files were answered; others are not served.
 abbrev pub IsOfFiles : Seen → Seen → ℕ → ℕ → Operation → Shown → Shown → Result Reply Failure
     → Type 0
-IsOfFiles s later pid node (asked.Open flags) old new r =
+IsOfFiles s later pid node (asked.Open flags how) old new r =
     AnswersOpen s later pid node flags old new r
 IsOfFiles s later pid node (asked.Read handle offset size flags) old new r =
     AnswersRead s later pid handle offset size old new r
@@ -519,7 +519,7 @@ IsOfNames s later pid node (asked.Rename name new_node new_name flags) old new r
     AnswersRename s later pid node name new_node new_name flags old new r
 IsOfNames s later pid node (asked.Link of name) old new r =
     AnswersLink s later pid node of name old new r
-IsOfNames s later pid node (asked.Create name flags mode) old new r =
+IsOfNames s later pid node (asked.Create name flags mode how) old new r =
     AnswersCreate s later pid node name flags old new r
 IsOfNames s later pid node operation old new r = IsOfFiles s later pid node operation old new r
 

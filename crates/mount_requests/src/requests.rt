@@ -57,9 +57,12 @@ impl Tables {
             Operation::SymLink { name, target } => self.make_link(hand, caller, &name, target),
             Operation::MkNod { name, mode } => self.make_node(hand, caller, &name, mode),
             Operation::MkDir { name, mode } => self.make_directory(hand, caller, &name, mode),
-            Operation::Create { name, flags, mode } => {
-                self.create(hand, caller, &name, flags, mode)
-            }
+            Operation::Create {
+                name,
+                flags,
+                mode,
+                how: _,
+            } => self.create(hand, caller, &name, flags, mode),
             Operation::Link { node: of, new_name } => self.link(hand, node, of, &new_name),
             Operation::Unlink { name } => self.unlink(hand, node, &name),
             Operation::RmDir { name } => self.remove_directory(hand, node, &name),
@@ -69,7 +72,7 @@ impl Tables {
                 new_name,
                 flags,
             } => self.move_name(hand, node, &name, new_parent, &new_name, flags),
-            Operation::Open { flags } => self.open(hand, node, flags),
+            Operation::Open { flags, how: _ } => self.open(hand, node, flags),
             Operation::Read {
                 handle,
                 offset,

@@ -160,16 +160,19 @@ fn of_name(verb: &str, name: Bytes) -> Operation {
             name,
             flags: BOTH,
             mode: 0o600,
+            how: 0,
         },
         "create_new" => Operation::Create {
             name,
             flags: BOTH | OPEN_EXCLUSIVE,
             mode: 0o600,
+            how: 0,
         },
         "create_cut" => Operation::Create {
             name,
             flags: BOTH | OPEN_TRUNCATE,
             mode: 0o600,
+            how: 0,
         },
         "unlink" => Operation::Unlink { name },
         _ => Operation::RmDir { name },
@@ -207,6 +210,7 @@ fn resizing(length: &str) -> Operation {
             mode: None,
             uid: None,
             gid: None,
+            drops_set_ids: false,
         },
     }
 }
@@ -243,9 +247,13 @@ fn of_open(verb: &str, file: u64, folder: u64) -> Operation {
 fn of_node(verb: &str) -> Option<Operation> {
     match verb {
         "getattr" => Some(Operation::GetAttr { handle: None }),
-        "open" => Some(Operation::Open { flags: BOTH }),
+        "open" => Some(Operation::Open {
+            flags: BOTH,
+            how: 0,
+        }),
         "cut" => Some(Operation::Open {
             flags: BOTH | OPEN_TRUNCATE,
+            how: 0,
         }),
         "readlink" => Some(Operation::ReadLink),
         "opendir" => Some(Operation::OpenDir),

@@ -58,9 +58,9 @@ plain_file s node = option_and_then (file_at s) (handle_at s 0 node)
 -- The process by which a request steps in the plain tree: one that has the file open, or the first
 -- one. Where a file is to be opened it is any that has a descriptor free.
 abbrev pub chosen : Seen → ℕ → Operation → Option ℕ
-chosen s node (asked.Open flags) =
+chosen s node (asked.Open flags how) =
     option_map (λ (f : OpenFile). process_by s (Some f)) (plain_file s node)
-chosen s node (asked.Create name flags mode) = None
+chosen s node (asked.Create name flags mode how) = None
 chosen s node (asked.MkNod name mode) = None
 chosen s node (asked.GetAttr handle) = Some (process_by s (plain_file s node))
 chosen s node (asked.SetAttr changes) = Some (process_by s (plain_file s node))
