@@ -47,13 +47,6 @@ struct Times {
     changed: Time,
 }
 
-// What an object has of which nothing is kept.
-const FIRST: Times = Times {
-    accessed: START,
-    modified: START,
-    changed: START,
-};
-
 /// The times of all objects, and the latest time that was told or given.
 pub struct AttributeTable {
     each: ByNumber<Times>,
@@ -116,6 +109,15 @@ fn mode_of(kind: Kind, permissions: Permissions) -> u32
     kind_bits(kind) + u32::from(permissions.bits())
 }
 
+// What an object has of which nothing is kept.
+fn first_times() -> Times {
+    Times {
+        accessed: START,
+        modified: START,
+        changed: START,
+    }
+}
+
 // What is told of an object that has these times.
 fn attr_by(stat: &Stat, kept: Times) -> Attr
     ensures { IsLike stat.now result }
@@ -171,7 +173,7 @@ impl AttributeTable {
     fn of(&self, inode: Num) -> Times {
         match self.each.get(inode.0 as u64) {
             Some(times) => *times,
-            None => FIRST,
+            None => first_times(),
         }
     }
 
@@ -237,7 +239,7 @@ impl AttributeTable {
     pub fn first_attr(&self, stat: &Stat) -> Attr
         ensures { IsLike stat.now result }
     {
-        attr_by(stat, FIRST)
+        attr_by(stat, first_times())
     }
 
     /// What is told of a node that is no object of the kernel.
