@@ -183,7 +183,8 @@ fn see_new<K: Machine>(hand: &mut Hand<K>, fd: Fd, rights: Rights) -> Result<Mad
     ensures ran { Ran hand.old.shown
         (seeing_new hand.old.pid rights fd) result hand.new.shown }
 {
-    match entitle_open(hand, fd, Some(both_of(rights.owner)), Some(rights.permissions)) {
+    let owner = both_of(rights.owner);
+    match entitle_open(hand, fd, Some(owner), Some(rights.permissions)) {
         Ok(()) => see(hand, fd, true),
         Err(fault) => close_for(hand, fd, fault),
     }

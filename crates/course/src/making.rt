@@ -32,7 +32,11 @@ fn entitle_made<K: Machine>(hand: &mut Hand<K>, again: Again, rights: Rights) ->
         (entitling_made hand.old.pid again rights) result hand.new.shown }
 {
     hand.do_call(Call::Chown(again.owned, both_of(rights.owner)))?;
-    make_at(hand, Call::Chmod(again.permitted, rights.permissions), again.told)
+    make_at(
+        hand,
+        Call::Chmod(again.permitted, rights.permissions),
+        again.told,
+    )
 }
 
 // Makes something by this call, which does not end the process, gives it an owner and permissions, and

@@ -222,10 +222,7 @@ static OPERATIONS: [(&str, &str); 51] = [
         "fchmod 4294967295 1755",
         "Call(Fchmod(Fd(4294967295), Permissions { bits: 1005 }))",
     ),
-    (
-        "fchmod 0 0",
-        "Call(Fchmod(Fd(0), Permissions { bits: 0 }))",
-    ),
+    ("fchmod 0 0", "Call(Fchmod(Fd(0), Permissions { bits: 0 }))"),
     (
         "chown /a 0 4294967295",
         "Call(Chown(Bytes { bytes: [47, 97] }, NewOwner { user: Some(0), group: Some(4294967295) }))",

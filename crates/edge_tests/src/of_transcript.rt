@@ -4,8 +4,8 @@ use crate::texts::inspect;
 use device::{Halting, Trickling};
 use heap::Heap;
 use ids::{
-    Answer, Aspect, Bytes, Call, Cause, Entry, Errno, Fd, Kind, Name, NameList, Num, Nums, Op, Owner,
-    Permissions, Pid, Pids, Reply, Rights, Stat, Touch, Why,
+    Answer, Aspect, Bytes, Call, Cause, Entry, Errno, Fd, Kind, Name, NameList, Num, Nums, Op,
+    Owner, Permissions, Pid, Pids, Reply, Rights, Stat, Touch, Why,
 };
 use script::{Line, read_script};
 use std::alloc::AllocError;

@@ -63,7 +63,10 @@ impl Tables {
                 flags,
                 mode,
                 how,
-            } => self.create(hand, caller, &name, creation(caller.owner, flags, mode, how)),
+            } => {
+                let creation = creation(caller.owner, flags, mode, how);
+                self.create(hand, caller, &name, creation)
+            }
             Operation::Link { node: of, new_name } => self.link(hand, node, of, &new_name),
             Operation::Unlink { name } => self.unlink(hand, node, &name),
             Operation::RmDir { name } => self.remove_directory(hand, node, &name),

@@ -317,11 +317,7 @@ fn on_object<K: Machine>(
             read_link(hand, heap, twice(rt, heap, "/a"), inode),
         ),
         Act::Resize => told(rt, heap, seen(update(hand, by_path, paths, length()))),
-        Act::ResizeOpen => told(
-            rt,
-            heap,
-            seen(update(hand, by_descriptor, paths, length())),
-        ),
+        Act::ResizeOpen => told(rt, heap, seen(update(hand, by_descriptor, paths, length()))),
         Act::Update => told(rt, heap, seen(update(hand, by_path, paths, all()))),
         _ => told(rt, heap, seen(update(hand, by_descriptor, paths, all()))),
     }
