@@ -28,8 +28,8 @@ use Rattle.course.specs.declared.updates.Paths.{Paths}
 use Rattle.course.specs.declared.updates.Update.{Update}
 use Rattle.mount_requests.specs.Aborts.{EndsAtAborts, IsNoAbort}
 use Rattle.mount_requests.proofs.NoAborts.{bytes_no_abort, count_no_abort, done_no_abort, fd_no_abort, names_no_abort, stat_no_abort}
-use Rattle.mount_requests.specs.Found.{handle_of}
-use Rattle.mount_requests.specs.Requests.{listed_by, listing_anew, making_open, moving_by, once, opened_by, put_by, setting_by, written_by}
+use Rattle.mount_requests.specs.Found.{handle_of, once}
+use Rattle.mount_requests.specs.Requests.{listed_by, listing_anew, making_open, moving_by, opened_by, put_by, setting_by, written_by}
 use Rattle.mount_requests.specs.Seen.{Seen}
 use Rattle.mount_requests.specs.declared.changing.Setting.{Setting}
 use Rattle.mount_requests.specs.declared.opening.Creation.{Creation}

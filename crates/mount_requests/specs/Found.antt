@@ -10,6 +10,7 @@ use Rattle.nodes.specs.Paths.{Way, path_of}
 use Rattle.nodes.specs.Tables.{is_current, root_of}
 use Rattle.nodes.specs.declared.node.Node.{Node}
 use Rattle.course.specs.declared.making.Again.{Again}
+use Rattle.course.specs.declared.names.Twice.{Twice}
 use Rattle.course.specs.declared.objects.Object.{Object}
 use Rattle.course.specs.declared.place.Place.{Place}
 use Rattle.course.specs.declared.updates.Paths.{Paths}
@@ -138,6 +139,17 @@ each_use path = record { looked = path; sized = path; owned = path; permitted = 
 
 abbrev pub paths_to : Seen → ℕ → Option Paths
 paths_to s node = option_map each_use (option_map own_path (path_to s node))
+
+-- or twice
+abbrev pub twice : List ℕ → Twice
+twice path = record { first = path; second = path }
+
+abbrev pub own_paths : Seen → ℕ → Option Twice
+own_paths s node = option_map twice (option_map own_path (path_to s node))
+
+-- the first use of these
+abbrev pub once : Option Twice → Option (List ℕ)
+once paths = option_map (λ (p : Twice). p.first) paths
 
 -- ---- open files
 

@@ -1,7 +1,7 @@
 -- The plan of each request about a node of a tree, its course, what its reply shows, and what is known
 -- then of nodes and open files: all that is not told here stands.
 use Rattle.std.specs.Prelude.{◌≡◌, ℕ, ◌+◌, ◌==◌, ◌&&◌, min, ℤ}
-use Rattle.std.specs.Prelude.{List, [], Bool, true, false, Option, Some, None, is_some, option_map}
+use Rattle.std.specs.Prelude.{List, [], Bool, true, false, Option, Some, None, is_some}
 use Rattle.std.specs.Prelude.{Result, Ok, Err, if◌then◌else◌}
 use Rattle.model.specs.FiniteMap as map
 use Rattle.ids.specs.declared.call.Call.TheVariants as call
@@ -26,7 +26,6 @@ use Rattle.course.specs.Courses.{reading, reading_link, stating, updating, writi
 use Rattle.course.specs.declared.fault.Fault.{Fault}
 use Rattle.course.specs.declared.files.Made.{Made}
 use Rattle.course.specs.declared.made.Cut.{Cut}
-use Rattle.course.specs.declared.names.Twice.{Twice}
 use Rattle.course.specs.declared.updates.Update.{Update}
 use Rattle.mount_tables.specs.Files.{counted}
 use Rattle.mount_tables.specs.Folders.{Opened}
@@ -38,8 +37,8 @@ use Rattle.mount_requests.specs.Asked.{absent_in, creation, cut_by, drops, given
 use Rattle.mount_requests.specs.Asked.{offset_in, owner_by, permissions_by, special_in, update_of}
 use Rattle.mount_requests.specs.Failures.{and_then, error, found_or}
 use Rattle.mount_requests.specs.Found.{file_by, folder_at, handle_at, handle_of, inode_of, located_child}
-use Rattle.mount_requests.specs.Found.{located_made, located_new, located_own, object_of, own_path}
-use Rattle.mount_requests.specs.Found.{path_to, paths_to, shown_names, stepper_at}
+use Rattle.mount_requests.specs.Found.{located_made, located_new, located_own, object_of, once}
+use Rattle.mount_requests.specs.Found.{own_paths, paths_to, shown_names, stepper_at, twice}
 use Rattle.mount_requests.specs.Listed.{Lists}
 use Rattle.mount_requests.specs.Seen.{Seen}
 use Rattle.mount_requests.specs.Told.{ShowsAttributes, ShowsBytes, ShowsCount, ShowsCreated, ShowsEntry}
@@ -59,17 +58,6 @@ use Rattle.mount_requests.specs.declared.planning.NewName.{NewName}
 use Rattle.mount_requests.specs.declared.reading.Directory.{Directory}
 use Rattle.mount_requests.specs.declared.removing.Moving.{Moving}
 use Rattle.mount_requests.specs.declared.requests.Caller.{Caller}
-
--- a path that is used twice
-abbrev pub twice : List ℕ → Twice
-twice path = record { first = path; second = path }
-
-abbrev pub own_paths : Seen → ℕ → Option Twice
-own_paths s node = option_map twice (option_map own_path (path_to s node))
-
--- the first use of it
-abbrev pub once : Option Twice → Option (List ℕ)
-once paths = option_map (λ (p : Twice). p.first) paths
 
 -- ---- what is known then
 
