@@ -3,7 +3,8 @@ ghost use Rattle.std.specs.Prelude.{◌≡◌, ◌<◌, ◌++◌, ◌∷◌, opt
 ghost use Rattle.mount_requests.specs.Answers.{IsPlanned};
 ghost use Rattle.mount_requests.specs.Found.{again, each_use, home_in, located, located_child};
 ghost use Rattle.mount_requests.specs.Found.{located_made, located_new, located_own, object_of};
-ghost use Rattle.mount_requests.specs.Found.{own_path, own_paths, path_to, paths_to, place_of, twice};
+ghost use Rattle.mount_requests.specs.Found.{own_path, own_paths, path_to, paths_to, place_of};
+ghost use Rattle.mount_requests.specs.Found.{twice};
 ghost use Rattle.mount_requests.specs.Requests.{in_one_view};
 ghost use Rattle.mount_requests.specs.Seen.{seen};
 ghost use Rattle.mount_requests.specs.Told.{named};
