@@ -54,6 +54,8 @@ enum Op {
     Readlink(Vec<u8>),
     Lstat(Vec<u8>),
     Mknod(Vec<u8>),
+    Chmod(Vec<u8>, u16),
+    Chown(Vec<u8>, u32, u32),
     Pipe,
     Fork,
     Exit,
@@ -68,7 +70,7 @@ enum Reply {
     Pair(usize, usize),
     Count(usize),
     Bytes(Vec<u8>),
-    Stat { number: usize, size: usize, links: usize },
+    Stat { number: usize, size: usize, links: usize, rights: Rights },
     Names(Vec<Vec<u8>>),
     Child(usize),
     Errno(Errno),
@@ -93,6 +95,25 @@ enum Inode {
     Gone,
 }
 
+/// Who may do what with an inode, and whose it is.
+#[derive(Clone, Copy)]
+#[allow(dead_code)] // Replies keep it all.
+struct Rights {
+    permissions: u16,
+    user: u32,
+    group: u32,
+}
+
+/// Those of a new inode.
+fn first_rights(inode: &Inode) -> Rights {
+    let permissions = match inode {
+        Inode::Directory(_) => 0o755,
+        Inode::Fixed { target: Some(_), .. } => 0o777,
+        _ => 0o644,
+    };
+    Rights { permissions, user: 0, group: 0 }
+}
+
 /// What a descriptor stands for. Children share it.
 struct Description {
     inode: usize,
@@ -108,6 +129,8 @@ type Answer = Result<Reply, Errno>;
 /// The plain kernel.
 struct Kernel {
     inodes: Vec<Inode>,
+    /// The rights of each inode.
+    rights: Vec<Rights>,
     free: Vec<usize>,
     descriptions: Vec<Description>,
     free_descriptions: Vec<usize>,
@@ -145,8 +168,10 @@ fn part(bytes: &[u8], offset: usize, count: usize) -> &[u8] {
 
 impl Kernel {
     fn new() -> Kernel {
+        let root = Inode::Directory(Names::new());
         Kernel {
-            inodes: vec![Inode::Directory(Names::new())],
+            rights: vec![first_rights(&root)],
+            inodes: vec![root],
             free: Vec::new(),
             descriptions: Vec::new(),
             free_descriptions: Vec::new(),
@@ -189,6 +214,8 @@ impl Kernel {
             Op::Readlink(path) => self.readlink(path),
             Op::Lstat(path) => self.lstat(path),
             Op::Mknod(path) => self.mknod(path),
+            Op::Chmod(path, permissions) => self.chmod(path, *permissions),
+            Op::Chown(path, user, group) => self.chown(path, *user, *group),
             Op::Pipe => self.pipe(process),
             Op::Fork => self.fork(process),
             Op::Exit => self.exit(process),
@@ -240,13 +267,16 @@ impl Kernel {
     }
 
     fn add_inode(&mut self, inode: Inode) -> usize {
+        let rights = first_rights(&inode);
         match self.free.pop() {
             Some(number) => {
                 self.inodes[number] = inode;
+                self.rights[number] = rights;
                 number
             }
             None => {
                 self.inodes.push(inode);
+                self.rights.push(rights);
                 self.inodes.len() - 1
             }
         }
@@ -279,7 +309,7 @@ impl Kernel {
             Inode::File { bytes, links, .. } => (bytes.len(), *links),
             _ => (0, 1),
         };
-        Ok(Reply::Stat { number, size, links })
+        Ok(Reply::Stat { number, size, links, rights: self.rights[number] })
     }
 
     /// A walk goes on by no symbolic link, so this is `stat` where it does not end at one.
@@ -288,7 +318,7 @@ impl Kernel {
         match &self.inodes[number] {
             Inode::Fixed { target, links } => {
                 let size = target.as_ref().map_or(0, Vec::len);
-                Ok(Reply::Stat { number, size, links: *links })
+                Ok(Reply::Stat { number, size, links: *links, rights: self.rights[number] })
             }
             _ => self.stat(path),
         }
@@ -311,6 +341,24 @@ impl Kernel {
     fn mknod(&mut self, path: &[u8]) -> Answer {
         let (directory, name) = self.parent(path)?;
         self.create(directory, name, Inode::Fixed { target: None, links: 1 })?;
+        Ok(Reply::Done)
+    }
+
+    fn chmod(&mut self, path: &[u8], permissions: u16) -> Answer {
+        let number = self.find(path)?;
+        self.rights[number].permissions = permissions;
+        Ok(Reply::Done)
+    }
+
+    fn chown(&mut self, path: &[u8], user: u32, group: u32) -> Answer {
+        let number = self.find(path)?;
+        let Rights { permissions, .. } = self.rights[number];
+        let permissions = match &self.inodes[number] {
+            Inode::Directory(_) => permissions,
+            _ if permissions & 0o10 != 0 => permissions & 0o1777,
+            _ => permissions & 0o3777,
+        };
+        self.rights[number] = Rights { permissions, user, group };
         Ok(Reply::Done)
     }
 
@@ -755,6 +803,12 @@ fn print_small() {
         old_names(kernel, "open, read 64 bytes, close", 1000, read);
         old_names(kernel, "truncate of one file of 1000", 1000, |kernel, number| {
             step(kernel, 1, Op::Truncate(path(b'f', number), 32));
+        });
+        old_names(kernel, "chmod of one file of 1000", 1000, |kernel, number| {
+            step(kernel, 1, Op::Chmod(path(b'f', number), 0o755));
+        });
+        old_names(kernel, "chown of one file of 1000", 1000, |kernel, number| {
+            step(kernel, 1, Op::Chown(path(b'f', number), 1, 2));
         });
         old_names(kernel, "rename", 1000, |kernel, number| {
             step(kernel, 1, Op::Rename(path(b'f', number), path(b'g', number)));

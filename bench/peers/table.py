@@ -33,6 +33,8 @@ CALLS = [
     "pwrite 64 bytes anywhere",
     "pread 64 bytes anywhere",
     "truncate of one file of 1000",
+    "chmod of one file of 1000",
+    "chown of one file of 1000",
     "pipe, write and read 64 bytes",
     "fork and exit",
 ]

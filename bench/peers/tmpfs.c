@@ -161,6 +161,21 @@ static void do_truncate(uint64_t number)
     must(truncate(path, 32), "truncate");
 }
 
+static void do_chmod(uint64_t number)
+{
+    char path[16];
+    set_path(path, 'f', number);
+    must(chmod(path, 0755), "chmod");
+}
+
+/* To the one who runs this, since nobody else may be named without rights. */
+static void do_chown(uint64_t number)
+{
+    char path[16];
+    set_path(path, 'f', number);
+    must(chown(path, getuid(), getgid()), "chown");
+}
+
 static void do_rename(uint64_t number)
 {
     char old[16], new[16];
@@ -291,6 +306,8 @@ static void small(void)
         new_names("create, write 64 bytes, close", 1000, do_create);
         old_names("open, read 64 bytes, close", 1000, do_read);
         old_names("truncate of one file of 1000", 1000, do_truncate);
+        old_names("chmod of one file of 1000", 1000, do_chmod);
+        old_names("chown of one file of 1000", 1000, do_chown);
         old_names("rename", 1000, do_rename);
         old_names("unlink", 1000, do_unlink);
         new_names("symlink of 1000 names", 1000, do_symlink);

@@ -230,6 +230,25 @@ static void put_byte(kagzuvis *kernel, unsigned char byte)
     put_word(kernel, word);
 }
 
+static void put_mode(kagzuvis *kernel, unsigned mode)
+{
+    char word[16];
+
+    snprintf(word, sizeof word, "%o", mode);
+    put_word(kernel, word);
+    if (mode > 07777)
+        spoil(kernel, KAGZUVIS_MISUSED);
+}
+
+/* Puts the user or the group of an owner. */
+static void put_owner(kagzuvis *kernel, uint32_t number)
+{
+    if (number == KAGZUVIS_SAME)
+        put_word(kernel, "-");
+    else
+        put_number(kernel, number);
+}
+
 /* Begins the line of an operation, under the word by which it is asked. */
 static void begin_line(kagzuvis *kernel, unsigned process, const char *word)
 {
@@ -533,6 +552,40 @@ int kagzuvis_mknod(kagzuvis *kernel, unsigned process, const char *path, enum ka
     if (kind != KAGZUVIS_FIFO && kind != KAGZUVIS_SOCKET)
         spoil(kernel, KAGZUVIS_MISUSED);
     return ask(kernel, process, MKNOD);
+}
+
+int kagzuvis_chmod(kagzuvis *kernel, unsigned process, const char *path, unsigned mode)
+{
+    begin_call(kernel, process, CHMOD);
+    put_path(kernel, path);
+    put_mode(kernel, mode);
+    return ask(kernel, process, CHMOD);
+}
+
+int kagzuvis_fchmod(kagzuvis *kernel, unsigned process, int fd, unsigned mode)
+{
+    begin_call(kernel, process, FCHMOD);
+    put_fd(kernel, fd);
+    put_mode(kernel, mode);
+    return ask(kernel, process, FCHMOD);
+}
+
+int kagzuvis_chown(kagzuvis *kernel, unsigned process, const char *path, uint32_t user, uint32_t group)
+{
+    begin_call(kernel, process, CHOWN);
+    put_path(kernel, path);
+    put_owner(kernel, user);
+    put_owner(kernel, group);
+    return ask(kernel, process, CHOWN);
+}
+
+int kagzuvis_fchown(kagzuvis *kernel, unsigned process, int fd, uint32_t user, uint32_t group)
+{
+    begin_call(kernel, process, FCHOWN);
+    put_fd(kernel, fd);
+    put_owner(kernel, user);
+    put_owner(kernel, group);
+    return ask(kernel, process, FCHOWN);
 }
 
 int kagzuvis_dup(kagzuvis *kernel, unsigned process, int fd)

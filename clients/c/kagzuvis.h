@@ -101,14 +101,21 @@ enum kagzuvis_aspect {
     KAGZUVIS_OFFSET,
     KAGZUVIS_FRONT,
     KAGZUVIS_BACK,
-    KAGZUVIS_TARGET
+    KAGZUVIS_TARGET,
+    KAGZUVIS_RIGHTS
 };
 
 struct kagzuvis_stat {
     enum kagzuvis_kind kind;
     uint32_t size;
     uint32_t links;
+    unsigned mode;        /* the bits that a chmod sets, as 0644 */
+    uint32_t user;
+    uint32_t group;
 };
+
+/* Of an owner, the user or the group that stays as it is. */
+#define KAGZUVIS_SAME UINT32_MAX
 
 /* The touch by which a process lost a conflict, and the process that won. */
 struct kagzuvis_cause {
@@ -202,6 +209,11 @@ long kagzuvis_readlink(kagzuvis *kernel, unsigned process, const char *path, cha
 int kagzuvis_lstat(kagzuvis *kernel, unsigned process, const char *path, struct kagzuvis_stat *stat);
 /* Makes a KAGZUVIS_FIFO or a KAGZUVIS_SOCKET. */
 int kagzuvis_mknod(kagzuvis *kernel, unsigned process, const char *path, enum kagzuvis_kind kind);
+/* A mode has twelve bits, as 0755. */
+int kagzuvis_chmod(kagzuvis *kernel, unsigned process, const char *path, unsigned mode);
+int kagzuvis_fchmod(kagzuvis *kernel, unsigned process, int fd, unsigned mode);
+int kagzuvis_chown(kagzuvis *kernel, unsigned process, const char *path, uint32_t user, uint32_t group);
+int kagzuvis_fchown(kagzuvis *kernel, unsigned process, int fd, uint32_t user, uint32_t group);
 int kagzuvis_dup(kagzuvis *kernel, unsigned process, int fd);
 int kagzuvis_dup2(kagzuvis *kernel, unsigned process, int old_fd, int new_fd);
 int kagzuvis_pipe(kagzuvis *kernel, unsigned process, int fds[2]);

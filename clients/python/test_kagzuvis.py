@@ -82,6 +82,22 @@ class Calls(TestCase):
         self.assertEqual(process.lstat("/s"), Stat("socket", 0, 1))
         self.assertEqual(process.list("/"), [b"f", b"k", b"l", b"s"])
 
+    def test_each_call_of_modes_and_owners(self):
+        process = self.kernel().processes[0]
+        process.open("/a", WRONLY | CREAT)
+        process.symlink("a", "/l")
+        self.assertEqual(process.stat("/a"), Stat("file", 0, 1, 0o644, 0, 0))
+        self.assertIsNone(process.chmod("/a", 0o7777))
+        self.assertEqual(process.fstat(0), Stat("file", 0, 1, 0o7777))
+        self.assertIsNone(process.chown("/a", 1, 2**32 - 1))
+        self.assertEqual(process.stat("/a"), Stat("file", 0, 1, 0o1777, 1, 2**32 - 1))
+        self.assertIsNone(process.fchown(0, -1, 2))
+        self.assertIsNone(process.fchmod(0, 0))
+        self.assertEqual(process.stat("/a"), Stat("file", 0, 1, 0, 1, 2))
+        self.assertIsNone(process.chown("/l", 3, -1))
+        self.assertEqual(process.lstat("/l"), Stat("link", 1, 1, 0o777, 3, 0))
+        self.assertEqual(process.stat("/"), Stat("dir", 0, 1, 0o755))
+
     def test_pipes_and_processes(self):
         parent = self.kernel().processes[0]
         self.assertEqual(parent.pipe(), (0, 1))
@@ -140,6 +156,10 @@ class Calls(TestCase):
             ("ENXIO", process.open, "/f", RDONLY),
             ("EINVAL", process.readlink, "/f"),
             ("ENOENT", process.symlink, "", "/k"),
+            ("ELOOP", process.chmod, "/l", 0o700),
+            ("ENOENT", process.chown, "/a", 1, 2),
+            ("EBADF", process.fchmod, 9, 0o700),
+            ("EBADF", process.fchown, 9, 1, 2),
             ("NotInTransaction", process.end),
             ("NotInTransaction", process.abort),
         ):
@@ -158,6 +178,8 @@ class Calls(TestCase):
             (process.lseek, 0, 2**63),
             (process.fill, 0, 1, 256),
             (process.mknod, "/f", "pipe"),
+            (process.chmod, "/a", 0o10000),
+            (process.fchown, 0, -2, 0),
             (kernel.send, b""),
             (kernel.send, b"# 1 end"),
             (kernel.send, b"1 end\n1 end"),
@@ -523,6 +545,12 @@ class HostileAnswers(TestCase):
         b"1 P1 open /a RDONLY -> 4294967296",
         b"1 P1 stat /a -> file size 1 links",
         b"1 P1 stat /a -> door size 1 links 1",
+        b"1 P1 stat /a -> file size 1 links 1 mode",
+        b"1 P1 stat /a -> file size 1 links 1 mode 8",
+        b"1 P1 stat /a -> file size 1 links 1 mode 10000",
+        b"1 P1 stat /a -> file size 1 links 1 owner 1",
+        b"1 P1 stat /a -> file size 1 links 1 owner 1 2 mode 7",
+        b"1 P1 chmod /a -> ok",
         b"1 P1 readlink /a -> ok",
         b"1 P1 symlink a -> ok",
         b"1 P1 list / -> names 2 a",

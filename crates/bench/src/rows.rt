@@ -14,7 +14,7 @@ struct Row {
 }
 
 // The rows of a directory with 1,000 names, in the order in which they are done.
-static ROWS: [Row; 17] = [
+static ROWS: [Row; 19] = [
     Row {
         name: "mkdir of 1000 names",
         work: Work::Mkdir,
@@ -53,6 +53,16 @@ static ROWS: [Row; 17] = [
     Row {
         name: "truncate of one file of 1000",
         work: Work::Truncate,
+        count: 1000,
+    },
+    Row {
+        name: "chmod of one file of 1000",
+        work: Work::Chmod,
+        count: 1000,
+    },
+    Row {
+        name: "chown of one file of 1000",
+        work: Work::Chown,
         count: 1000,
     },
     Row {

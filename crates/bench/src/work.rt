@@ -3,7 +3,7 @@ use crate::paths::{DEEP, TARGET, path, scattered, shuffled};
 use crate::steps::{child, step, step_refused};
 use anyhow::Result;
 use heap::Heap;
-use ids::{Bytes, Call, Fd, Op, OpenFlags, Special};
+use ids::{Bytes, Call, Fd, Kind, NewOwner, Op, OpenFlags, Rights, Special};
 use machine::Machine;
 
 /// The work of a row.
@@ -31,6 +31,10 @@ pub(crate) enum Work {
     Pread,
     /// Cuts a file of 64 bytes to 32, by its path.
     Truncate,
+    /// Sets a file's permissions, by its path.
+    Chmod,
+    /// Sets its owner.
+    Chown,
     /// Gives a file another name.
     Rename,
     /// Takes a file's name away.
@@ -105,6 +109,20 @@ fn rename<K: Machine>(kernel: &mut K, heap: Heap, number: u64) -> Result<()> {
     call(kernel, Call::Rename(old, new))
 }
 
+// To those of a directory, so that something has to be kept.
+fn chmod<K: Machine>(kernel: &mut K, heap: Heap, number: u64) -> Result<()> {
+    let permissions = Rights::first(Some(Kind::Dir)).permissions;
+    call(kernel, Call::Chmod(path(heap, b'f', number)?, permissions))
+}
+
+fn chown<K: Machine>(kernel: &mut K, heap: Heap, number: u64) -> Result<()> {
+    let owner = NewOwner {
+        user: Some(1),
+        group: Some(2),
+    };
+    call(kernel, Call::Chown(path(heap, b'f', number)?, owner))
+}
+
 fn symlink<K: Machine>(kernel: &mut K, heap: Heap, number: u64) -> Result<()> {
     let target = Bytes::copy(heap, TARGET.as_bytes())?;
     call(kernel, Call::Symlink(target, path(heap, b'l', number)?))
@@ -141,6 +159,8 @@ fn do_work<K: Machine>(kernel: &mut K, heap: Heap, work: Work, number: u64) -> R
         Work::Pwrite => pwrite(kernel, heap, number),
         Work::Pread => call(kernel, Call::Pread(FILE, 64, offset_of(number))),
         Work::Truncate => call(kernel, Call::Truncate(path(heap, b'f', number)?, SHORTER)),
+        Work::Chmod => chmod(kernel, heap, number),
+        Work::Chown => chown(kernel, heap, number),
         Work::Rename => rename(kernel, heap, number),
         Work::Unlink => call(kernel, Call::Unlink(path(heap, b'g', number)?)),
         Work::Symlink => symlink(kernel, heap, number),

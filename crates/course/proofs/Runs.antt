@@ -4,6 +4,7 @@ use Rattle.std.specs.Prelude.{Option, Some, IfSome, option_map, Result, Ok, Err,
 use Rattle.ids.specs.declared.call.Call.TheVariants as call
 use Rattle.ids.specs.declared.reply.Kind.{Kind}
 use Rattle.ids.specs.declared.reply.Stat.{Stat}
+use Rattle.ids.specs.declared.rights.Rights.{Rights}
 use Rattle.model.specs.Entries.{Op, Reply}
 use Rattle.machine.specs.Shown.{Shown}
 use Rattle.course.specs.declared.fault.Fault.{Fault}
@@ -71,8 +72,8 @@ pub other_file : (pid fd inode : ℕ) (stat : Stat) {old new : Shown} {r : Resul
 other_file pid fd inode stat {old} {new} {r} e h = subst (λ (b : Bool). Ran old (if b then Give (Ok fd) else closing pid fd fault.Stale) r new) (sym e) h
 
 -- the name is there, and may be
-pub there : (pid : ℕ) (path : List ℕ) (exclusive : Bool) (e : Fault) (opened : Result ℕ Fault) {old new : Shown} {r : Result Made Fault} → opened ≡ Err e → exclusive ≡ false → is_there e ≡ true → Ran old (opening_file pid path >>= on_ok (seeing pid false)) r new → Ran old (if_there pid path exclusive opened) r new
-there pid path exclusive e opened {old} {new} {r} o x y h = subst (λ (z : Result ℕ Fault). Ran old (if_there pid path exclusive z) r new) (sym o) (subst (λ (b : Bool). Ran old (if b || not (is_there e) then Give (Err e) else (opening_file pid path >>= on_ok (seeing pid false))) r new) (sym x) (subst (λ (b : Bool). Ran old (if false || not b then Give (Err e) else (opening_file pid path >>= on_ok (seeing pid false))) r new) (sym y) h))
+pub there : (pid : ℕ) (path : List ℕ) (exclusive : Bool) (rights : Rights) (e : Fault) (opened : Result ℕ Fault) {old new : Shown} {r : Result Made Fault} → opened ≡ Err e → exclusive ≡ false → is_there e ≡ true → Ran old (opening_file pid path >>= on_ok (seeing pid false)) r new → Ran old (if_there pid path exclusive rights opened) r new
+there pid path exclusive rights e opened {old} {new} {r} o x y h = subst (λ (z : Result ℕ Fault). Ran old (if_there pid path exclusive rights z) r new) (sym o) (subst (λ (b : Bool). Ran old (if b || not (is_there e) then Give (Err e) else (opening_file pid path >>= on_ok (seeing pid false))) r new) (sym x) (subst (λ (b : Bool). Ran old (if false || not b then Give (Err e) else (opening_file pid path >>= on_ok (seeing pid false))) r new) (sym y) h))
 
 -- a name is missing, and another error
 pub missing : (pid : ℕ) (from to : List ℕ) (e : Fault) {old new : Shown} {r : Result (Unit {0}) Fault} → is_missing e ≡ true → Ran old (doing pid (call.Rename from to)) r new → Ran old (if_absent pid from to (Err e)) r new

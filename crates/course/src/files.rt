@@ -5,14 +5,16 @@ ghost use Rattle.course.specs.Hands.{bound};
 ghost use Rattle.course.specs.Course.{Ran};
 ghost use Rattle.course.specs.Courses.{appending, both, checking, closing, creating, doing};
 ghost use Rattle.course.specs.Courses.{IsOffset, fresh, if_there, opening, opening_file, opening_this};
-ghost use Rattle.course.specs.Courses.{reading, seeing};
+ghost use Rattle.course.specs.Courses.{reading, seeing, seeing_new};
 ghost use Rattle.course.specs.Courses.{closing_for, stating, writing};
 ghost use Rattle.course.specs.Faults.{is_special, is_there, unless_aborted, unless_special};
 
 use crate::fault::{Fault, bytes_in, count_in, fd_in};
 use crate::hand::Hand;
+use crate::rights::both_of;
+use crate::updates::entitle_open;
 use heap::Heap;
-use ids::{Bytes, Call, Errno, Fd, Num, OpenFlags, Stat};
+use ids::{Bytes, Call, Errno, Fd, Num, OpenFlags, Rights, Stat};
 use machine::Machine;
 
 /// A file that was opened.
@@ -174,6 +176,20 @@ fn see<K: Machine>(hand: &mut Hand<K>, fd: Fd, is_new: bool) -> Result<Made, Fau
     }
 }
 
+// Gives a new file its owner and its permissions by its descriptor, and tells about it. Where one of
+// these fails the descriptor is closed.
+fn see_new<K: Machine>(hand: &mut Hand<K>, fd: Fd, rights: Rights) -> Result<Made, Fault>
+    ensures bound { bound hand.new ≡ bound hand.old }
+    ensures ran { Ran hand.old.shown
+        (seeing_new hand.old.pid rights fd) result hand.new.shown }
+{
+    let owner = both_of(rights.owner);
+    match entitle_open(hand, fd, Some(owner), Some(rights.permissions)) {
+        Ok(()) => see(hand, fd, true),
+        Err(fault) => close_for(hand, fd, fault),
+    }
+}
+
 // Whether an error says that the name is there.
 fn is_there(fault: &Fault) -> bool
     ensures { result ≡ is_there fault.now }
@@ -184,20 +200,21 @@ fn is_there(fault: &Fault) -> bool
     }
 }
 
-// What comes behind the opening of a new file: where its name is there already, that file is opened,
-// unless `exclusive` is true.
+// What comes behind the opening of a new file, which gets these rights: where its name is there already,
+// that file is opened, unless `exclusive` is true.
 fn go_on<K: Machine>(
     hand: &mut Hand<K>,
     path: Bytes,
     exclusive: bool,
+    rights: Rights,
     opened: Result<Fd, Fault>,
 ) -> Result<Made, Fault>
     ensures bound { bound hand.new ≡ bound hand.old }
     ensures ran { Ran hand.old.shown
-        (if_there hand.old.pid path exclusive opened) result hand.new.shown }
+        (if_there hand.old.pid path exclusive rights opened) result hand.new.shown }
 {
     match opened {
-        Ok(fd) => see(hand, fd, true),
+        Ok(fd) => see_new(hand, fd, rights),
         Err(fault) => {
             if exclusive || !is_there(&fault) {
                 return Err(fault);
@@ -208,20 +225,21 @@ fn go_on<K: Machine>(
     }
 }
 
-// Makes a file and opens it for reading and writing. Where the name is there already the file of
-// that name is opened, unless `exclusive` is true. The two paths are the same.
+// Makes a file with these rights and opens it for reading and writing. Where the name is there already
+// the file of that name is opened, unless `exclusive` is true. The two paths are the same.
 pub(crate) fn create<K: Machine>(
     hand: &mut Hand<K>,
     path: Bytes,
     again: Bytes,
     exclusive: bool,
+    rights: Rights,
 ) -> Result<Made, Fault>
     ensures bound { bound hand.new ≡ bound hand.old }
     ensures ran { Ran hand.old.shown
-        (creating hand.old.pid path again exclusive) result hand.new.shown }
+        (creating hand.old.pid path again exclusive rights) result hand.new.shown }
 {
     let opened = open(hand, path, fresh());
-    go_on(hand, again, exclusive, opened)
+    go_on(hand, again, exclusive, rights, opened)
 }
 
 // Cuts or grows the file of a descriptor.

@@ -9,20 +9,23 @@ mod fault;
 mod files;
 mod hand;
 mod made;
+mod making;
 mod names;
 mod objects;
 mod place;
+mod rights;
 mod step;
 mod transactions;
+mod updates;
 
 pub use fault::Fault;
 pub use files::{Made, append, close, read, stat_file, write};
 pub use hand::Hand;
-pub use made::{close_spare, create_cut, cut_if, make_node, open_cut};
-pub use names::{
-    Twice, link, list, look_up, make_directory, make_link, move_name, read_link, remove_directory,
-    unlink,
-};
-pub use objects::{Object, find, list_at, resize};
+pub use made::{Cut, close_spare, create_cut, cut_if, make_node, open_cut};
+pub use making::{Again, make_directory, make_link};
+pub use names::{Twice, link, list, look_up, move_name, read_link, remove_directory, unlink};
+pub use objects::{Object, find, list_at};
 pub use place::Place;
+pub use rights::permissions_in;
 pub use transactions::{begin, end, fork, give_up, look_nowhere};
+pub use updates::{Paths, Update, drop_if, update};

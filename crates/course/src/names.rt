@@ -4,8 +4,9 @@ ghost use Rattle.ids.specs.declared.call.Call.TheVariants as asked;
 ghost use Rattle.ids.specs.declared.call.Op.TheVariants as op;
 ghost use Rattle.course.specs.Hands.{bound, is_ending};
 ghost use Rattle.course.specs.Course.{Ran};
-ghost use Rattle.course.specs.Courses.{doing, inside, linking, listing, looking_for, making, moving};
-ghost use Rattle.course.specs.Courses.{reading_link, reading_target, same_or_stale, stating};
+ghost use Rattle.course.specs.Courses.{doing, inside, linking, listing, looking_at, looking_for};
+ghost use Rattle.course.specs.Courses.{making, moving, reading_link, reading_target, same_or_stale};
+ghost use Rattle.course.specs.Courses.{stating, told_or_stale};
 ghost use Rattle.course.specs.Faults.{gives_none, is_missing, stale_by};
 
 use crate::fault::{Fault, bytes_in, names_in};
@@ -65,42 +66,6 @@ pub(crate) fn make_at<K: Machine>(
     stat_path(hand, again)
 }
 
-/// Makes a directory in the one of `place`, and tells about it. The two paths are the same. It is
-/// `Stale`, and nothing is made, where the path of `place` gives another object, or none.
-pub fn make_directory<K: Machine>(
-    hand: &mut Hand<K>,
-    place: Option<Place>,
-    path: Bytes,
-    again: Bytes,
-) -> Result<Stat, Fault>
-    ensures bound { bound hand.new ≡ bound hand.old }
-    ensures ran { Ran hand.old.shown
-        (inside hand.old.pid place (making hand.old.pid (asked.Mkdir path) again))
-        result hand.new.shown }
-{
-    check_place(hand, place)?;
-    make_at(hand, Call::Mkdir(path), again)
-}
-
-/// Makes a symbolic link to this target in the directory of `place`, and tells about it. The two paths
-/// are the same. It is `Stale`, and nothing is made, where the path of `place` gives another object, or
-/// none.
-pub fn make_link<K: Machine>(
-    hand: &mut Hand<K>,
-    place: Option<Place>,
-    target: Bytes,
-    path: Bytes,
-    again: Bytes,
-) -> Result<Stat, Fault>
-    ensures bound { bound hand.new ≡ bound hand.old }
-    ensures ran { Ran hand.old.shown
-        (inside hand.old.pid place (making hand.old.pid (asked.Symlink target path) again))
-        result hand.new.shown }
-{
-    check_place(hand, place)?;
-    make_at(hand, Call::Symlink(target, path), again)
-}
-
 // Whether an error says that a path gives nothing.
 pub(crate) fn gives_none(fault: &Fault) -> bool
     ensures { result ≡ gives_none fault.now }
@@ -136,6 +101,32 @@ fn same_or_stale(inode: Num, looked: Result<Stat, Fault>) -> Result<(), Fault>
         }
         Err(fault) => Err(stale_by(fault)),
     }
+}
+
+// The same of a directory, where it is asked as well what that is like.
+fn told_or_stale(inode: Num, looked: Result<Stat, Fault>) -> Result<Stat, Fault>
+    ensures { result ≡ told_or_stale inode looked }
+{
+    match looked {
+        Ok(stat) => {
+            if stat.num == inode {
+                Ok(stat)
+            } else {
+                Err(Fault::Stale)
+            }
+        }
+        Err(fault) => Err(stale_by(fault)),
+    }
+}
+
+// What a directory is like, by its path. It is `Stale` where that gives another object, or none.
+pub(crate) fn look_at<K: Machine>(hand: &mut Hand<K>, place: Place) -> Result<Stat, Fault>
+    ensures bound { bound hand.new ≡ bound hand.old }
+    ensures ran { Ran hand.old.shown
+        (looking_at hand.old.pid place) result hand.new.shown }
+{
+    let looked = stat_path(hand, place.path);
+    told_or_stale(place.inode, looked)
 }
 
 // Looks whether a path gives this object.

@@ -1,16 +1,15 @@
 // Requests on objects that are found by their paths or their descriptors.
-ghost use Rattle.std.specs.Prelude.{◌≡◌, IfSome, None, Some, option_map};
+ghost use Rattle.std.specs.Prelude.{◌≡◌, IfSome, option_map};
 ghost use Rattle.course.specs.Hands.{bound};
 ghost use Rattle.course.specs.Course.{Ran};
 ghost use Rattle.course.specs.Courses.{by_descriptor, finding, if_found, if_listed, listing_at, nowhere};
-ghost use Rattle.course.specs.Courses.{removed, resizing, sizing};
+ghost use Rattle.course.specs.Courses.{removed};
 
 use crate::fault::Fault;
-use crate::files::{set_length, set_length_at};
 use crate::hand::Hand;
-use crate::names::{Twice, gives_none, list, look_for};
+use crate::names::{Twice, gives_none, list};
 use heap::Heap;
-use ids::{Bytes, Call, Fd, Kind, NameList, Num, Stat};
+use ids::{Bytes, Call, Fd, Kind, NameList, Num, Rights, Stat};
 use machine::Machine;
 
 /// An object, and how it is found.
@@ -35,6 +34,7 @@ fn removed(kind: Kind, inode: Num) -> Stat
         num: inode,
         size: 0,
         links: 0,
+        rights: Rights::first(Some(kind)),
     }
 }
 
@@ -116,63 +116,6 @@ pub fn find<K: Machine>(hand: &mut Hand<K>, object: Object) -> Result<Stat, Faul
         }
         None => by_descriptor(hand, kind, inode, fd),
     }
-}
-
-// Sets a length by the path, where that gives this object.
-fn set_length_there<K: Machine>(
-    hand: &mut Hand<K>,
-    inode: Num,
-    path: Twice,
-    length: u32,
-) -> Result<(), Fault>
-    requires { path.second ≡ path.first }
-    ensures bound { bound hand.new ≡ bound hand.old }
-    ensures ran { Ran hand.old.shown
-        (sizing hand.old.pid inode None (Some path.first) length) result hand.new.shown }
-{
-    look_for(hand, path.first, inode)?;
-    set_length_at(hand, path.second, length)
-}
-
-// Sets a length by the descriptor, if there is one, else by the path.
-fn set_length_by<K: Machine>(
-    hand: &mut Hand<K>,
-    inode: Num,
-    fd: Option<Fd>,
-    path: Option<Twice>,
-    length: u32,
-) -> Result<(), Fault>
-    requires { IfSome path (λ p. p.second ≡ p.first) }
-    ensures bound { bound hand.new ≡ bound hand.old }
-    ensures ran { Ran hand.old.shown
-        (sizing hand.old.pid inode fd (option_map (λ p. p.first) path) length)
-        result hand.new.shown }
-{
-    match fd {
-        Some(fd) => set_length(hand, fd, length),
-        None => match path {
-            Some(path) => set_length_there(hand, inode, path, length),
-            None => Err(Fault::Stale),
-        },
-    }
-}
-
-/// Cuts or grows a file, by its descriptor, else by this path, where that gives it, and tells what
-/// it is like then. Where the path gives another object it is stale.
-pub fn resize<K: Machine>(
-    hand: &mut Hand<K>,
-    object: Object,
-    path: Option<Twice>,
-    length: u32,
-) -> Result<Stat, Fault>
-    requires { IfSome path (λ p. p.second ≡ p.first) }
-    ensures bound { bound hand.new ≡ bound hand.old }
-    ensures ran { Ran hand.old.shown
-        (resizing hand.old.pid object (option_map (λ p. p.first) path) length)
-        result hand.new.shown }
-{
-    set_length_by(hand, object.inode, object.fd, path, length)?;
-    find(hand, object)
 }
 
 // What comes behind the look whether a path gives a directory.

@@ -78,7 +78,7 @@ static HEADS: [(&[u8], ScriptFault); 31] = [
 ];
 
 // Second lines of texts that are no scripts.
-static LINES: [(&[u8], ScriptFault); 88] = [
+static LINES: [(&[u8], ScriptFault); 96] = [
     (b" ", ScriptFault::ProcessExpected(2)),
     (b"0", ScriptFault::ProcessExpected(2)),
     (b"0 stat /", ScriptFault::ProcessExpected(2)),
@@ -179,6 +179,14 @@ static LINES: [(&[u8], ScriptFault); 88] = [
     (b"1 lstat ", ScriptFault::BadArguments(2)),
     (b"1 mknod /f fifo ", ScriptFault::BadArguments(2)),
     (b"1 mknod /f Fifo", ScriptFault::BadArguments(2)),
+    (b"1 chmod /a 0644 ", ScriptFault::BadArguments(2)),
+    (b"1 chmod /a\\ 644", ScriptFault::BadArguments(2)),
+    (b"1 chmod /a 6 4 4", ScriptFault::BadArguments(2)),
+    (b"1 fchmod 0 -644", ScriptFault::BadArguments(2)),
+    (b"1 chown /a - ", ScriptFault::BadArguments(2)),
+    (b"1 chown \xff 0 0", ScriptFault::BadArguments(2)),
+    (b"1 fchown 0 0 0x0", ScriptFault::BadArguments(2)),
+    (b"1 fchown 0 - --", ScriptFault::BadArguments(2)),
 ];
 
 // A text whose second line is this.
@@ -253,6 +261,10 @@ static ALL: &str = "priorities 0 7
 1 lstat /l
 1 mknod /f fifo
 1 mknod /s socket
+1 chmod /a 7777
+1 chown /a - 4294967295
+1 fchmod 0 0
+1 fchown 0 1 -
 1 dup 0
 1 dup2 0 1
 1 pipe

@@ -4,8 +4,8 @@ use crate::texts::inspect;
 use device::{Halting, Trickling};
 use heap::Heap;
 use ids::{
-    Answer, Aspect, Bytes, Call, Cause, Entry, Errno, Fd, Kind, Name, NameList, Num, Nums, Op, Pid,
-    Pids, Reply, Stat, Touch, Why,
+    Answer, Aspect, Bytes, Call, Cause, Entry, Errno, Fd, Kind, Name, NameList, Num, Nums, Op,
+    Owner, Permissions, Pid, Pids, Reply, Rights, Stat, Touch, Why,
 };
 use script::{Line, read_script};
 use std::alloc::AllocError;
@@ -57,6 +57,16 @@ static SCRIPT: &str = "priorities 0
 3 mknod /a fifo
 3 mknod /b socket
 3 open /a RDONLY
+3 end
+3 chmod /\\x20 0644
+3 chown /a 0 -
+3 fchmod 4294967295 7777
+3 fchown 0 - 4294967295
+3 stat /a
+3 lstat /a
+3 fstat 0
+3 stat /b
+3 stat /c
 3 end
 3 read 0 5
 3 pread 0 5 9223372036854775807
@@ -110,20 +120,45 @@ static TRANSCRIPT: &str = "1 P1 begin -> begun
 42 P3 mknod /b socket -> EEXIST
 43 P3 open /a RDONLY -> ENXIO
 44 P3 end -> busy target read by P9
-45 P3 read 0 5 -> 2 a\\x0a
-46 P3 pread 0 5 9223372036854775807 -> 0 \\e
-47 P3 readlink /a -> 4 ../a
-48 P3 list /a -> names 2 a b\\x20c
-49 P4096 end -> busy entry a write by P9 dooms P1,P4096
+45 P3 chmod /\\x20 644 -> ok
+46 P3 chown /a 0 - -> ok
+47 P3 fchmod 4294967295 7777 -> EBADF
+48 P3 fchown 0 - 4294967295 -> ok
+49 P3 stat /a -> file size 3 links 1 mode 0
+50 P3 lstat /a -> link size 1 links 1 mode 17 owner 0 5
+51 P3 fstat 0 -> pipe size 0 links 0 mode 700 owner 4294967295 0
+52 P3 stat /b -> dir size 0 links 1 owner 1 2
+53 P3 stat /c -> fifo size 0 links 1 mode 7777 owner 4294967295 4294967295
+54 P3 end -> busy rights write by P9
+55 P3 read 0 5 -> 2 a\\x0a
+56 P3 pread 0 5 9223372036854775807 -> 0 \\e
+57 P3 readlink /a -> 4 ../a
+58 P3 list /a -> names 2 a b\\x20c
+59 P4096 end -> busy entry a write by P9 dooms P1,P4096
 ";
 
-fn stat(kind: Kind, size: u32, links: u32) -> Reply {
+// A status with these rights.
+fn told(kind: Kind, size: u32, links: u32, rights: Rights) -> Reply {
     Reply::Answer(Answer::Stat(Stat {
         kind,
         num: Num(7),
         size,
         links,
+        rights,
     }))
+}
+
+// A status with the first rights of its kind.
+fn stat(kind: Kind, size: u32, links: u32) -> Reply {
+    told(kind, size, links, Rights::first(Some(kind)))
+}
+
+fn rights(bits: u16, user: u32, group: u32) -> Rights {
+    let first = Rights::first(None).permissions;
+    Rights {
+        permissions: Permissions::new(bits).unwrap_or(first),
+        owner: Owner { user, group },
+    }
 }
 
 fn cause(aspect: Aspect, write: bool) -> Cause {
@@ -189,6 +224,23 @@ fn plain_replies() -> [Reply; 44] {
     ]
 }
 
+// The replies to what sets rights, and those that tell them.
+fn replies_of_rights() -> [Reply; 10] {
+    let most = u32::MAX;
+    [
+        Reply::Answer(Answer::Done),
+        Reply::Answer(Answer::Done),
+        Reply::Errno(Errno::EBADF),
+        Reply::Answer(Answer::Done),
+        told(Kind::File, 3, 1, rights(0, 0, 0)),
+        told(Kind::Link, 1, 1, rights(0o17, 0, 5)),
+        told(Kind::Pipe, 0, 0, rights(0o700, most, 0)),
+        told(Kind::Dir, 0, 1, rights(0o755, 1, 2)),
+        told(Kind::Fifo, 0, 1, rights(0o7777, most, most)),
+        Reply::Busy(cause(Aspect::Rights(Num(1)), true)),
+    ]
+}
+
 fn names(heap: Heap) -> Result<NameList, AllocError> {
     let mut names = Vec::with_capacity(heap, 2)?;
     names.push(Name::copy(heap, b"a")?)?;
@@ -223,6 +275,7 @@ fn entry(heap: Heap, line: Line, reply: Reply) -> Entry {
 
 fn replies(heap: Heap) -> Result<Vec<Reply, Heap>, AllocError> {
     let mut replies = Vec::from_array(heap, plain_replies())?;
+    replies.append(&mut Vec::from_array(heap, replies_of_rights())?)?;
     replies.append(&mut Vec::from_array(heap, replies_with_memory(heap)?)?)?;
     Ok(replies)
 }

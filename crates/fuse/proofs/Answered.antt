@@ -67,7 +67,7 @@ link_tells body = map_tells (λ name. op.Link (u64_at body 0) name) (behind 8 na
 
 create_tells : (body : List ℕ) → Tells true (create_in body)
 unfolding create_in
-create_tells body = map_tells (λ name. op.Create name (u32_at body 0) (u32_at body 4)) (behind 16 name_in body) (λ x. refl)
+create_tells body = map_tells (λ name. op.Create name (u32_at body 0) (u32_at body 4) (u32_at body 12)) (behind 16 name_in body) (λ x. refl)
 
 rename2_tells : (body : List ℕ) → Tells true (rename2_in body)
 unfolding rename2_in
@@ -75,7 +75,7 @@ rename2_tells body = map_tells (λ names. op.Rename names.0 (u64_at body 0) name
 
 open_tells : (body : List ℕ) → Tells true (open_in body)
 unfolding open_in
-open_tells body = of_length_tells true 8 body (op.Open (u32_at body 0)) refl
+open_tells body = of_length_tells true 8 body (op.Open (u32_at body 0) (u32_at body 4)) refl
 
 read_tells : (body : List ℕ) → Tells true (read_in body)
 unfolding read_in

@@ -11,6 +11,12 @@ pub const OPEN_TRUNCATE: u32 = 0o1000;
 /// Each write goes to the end of the file, wherever that is then: O_APPEND.
 pub const OPEN_APPEND: u32 = 0o2000;
 
+// ---- how a file is opened besides (FUSE_OPEN_ in linux/fuse.h)
+
+/// Where the open cuts the file, set-user-ID and set-group-ID go with its bytes:
+/// FUSE_OPEN_KILL_SUIDGID.
+pub const OPEN_DROPS_SET_IDS: u32 = 1 << 0;
+
 // ---- the flags of a reply to an open (FOPEN_ in linux/fuse.h)
 
 /// Reads and writes go past the kernel's cache.
@@ -33,6 +39,10 @@ pub const INIT_DROPS_CHANGED: u32 = 1 << 12;
 
 /// The reply tells how many pages a request may have: FUSE_MAX_PAGES.
 pub const INIT_MAX_PAGES: u32 = 1 << 22;
+
+/// Whoever serves takes set-user-ID and set-group-ID away: where a request says so, and where
+/// anything but a directory gets another owner. FUSE_HANDLE_KILLPRIV_V2.
+pub const INIT_DROPS_SET_IDS: u32 = 1 << 28;
 
 // ---- modes (S_IF in Linux's stat.h)
 
@@ -69,3 +79,6 @@ pub const RENAME_EXCHANGE: u32 = 1 << 1;
 
 /// The kernel writes from its cache, and not a program at the moment.
 pub const WRITE_FROM_CACHE: u32 = 1 << 0;
+
+/// Set-user-ID and set-group-ID go: FUSE_WRITE_KILL_SUIDGID.
+pub const WRITE_DROPS_SET_IDS: u32 = 1 << 2;

@@ -104,5 +104,11 @@ pub(crate) fn create_in(heap: Heap, body: &[u8]) -> Result<Operation, BodyFault>
     let name = name_behind(heap, body, 16)?;
     let flags = u32_at(body, 0);
     let mode = u32_at(body, 4);
-    Ok(Operation::Create { name, flags, mode })
+    let how = u32_at(body, 12);
+    Ok(Operation::Create {
+        name,
+        flags,
+        mode,
+        how,
+    })
 }

@@ -37,6 +37,8 @@ pub struct Changes {
     pub uid: Option<u32>,
     /// The group that it belongs to.
     pub gid: Option<u32>,
+    /// Whether set-user-ID and set-group-ID go with this length, or with this owner.
+    pub drops_set_ids: bool,
 }
 
 /// From where an offset counts.
@@ -138,6 +140,8 @@ pub enum Operation {
     Open {
         /// The flags of `open`.
         flags: u32,
+        /// 1 where set-user-ID and set-group-ID go with bytes that are cut.
+        how: u32,
     },
     /// Makes a file and opens it.
     Create {
@@ -147,6 +151,8 @@ pub enum Operation {
         flags: u32,
         /// Its kind and permissions.
         mode: u32,
+        /// 1 where set-user-ID and set-group-ID go with bytes that are cut.
+        how: u32,
     },
     /// Reads bytes of an open file.
     Read {
@@ -165,7 +171,7 @@ pub enum Operation {
         handle: u64,
         /// Where they begin.
         offset: u64,
-        /// 1 for a write from the kernel's cache.
+        /// 1 for a write from the kernel's cache, and 4 where set-user-ID and set-group-ID go.
         write_flags: u32,
         /// The flags that it is open with.
         open_flags: u32,

@@ -19,13 +19,15 @@ enum Kind {
     Length,
     Target,
     Special,
+    Mode,
+    Id,
 }
 
 // An operation: its share among all, the words that are always the same, and what stands behind
 // them.
 type Form = (u64, &'static str, &'static [Kind]);
 
-static FORMS: [Form; 35] = [
+static FORMS: [Form; 39] = [
     (3, "begin", &[]),
     (3, "begin RESTART", &[]),
     (1, "begin ABORT_UNSUPPORTED", &[]),
@@ -60,6 +62,10 @@ static FORMS: [Form; 35] = [
     (2, "readlink", &[Kind::Path]),
     (2, "lstat", &[Kind::Path]),
     (2, "mknod", &[Kind::Path, Kind::Special]),
+    (3, "chmod", &[Kind::Path, Kind::Mode]),
+    (3, "chown", &[Kind::Path, Kind::Id, Kind::Id]),
+    (2, "fchmod", &[Kind::Descriptor, Kind::Mode]),
+    (2, "fchown", &[Kind::Descriptor, Kind::Id, Kind::Id]),
     (2, "dup", &[Kind::Descriptor]),
     (2, "dup2", &[Kind::Descriptor, Kind::Descriptor]),
     (2, "pipe", &[]),
@@ -68,7 +74,7 @@ static FORMS: [Form; 35] = [
 ];
 
 // The sum of the shares.
-const SHARES: u64 = 92;
+const SHARES: u64 = 102;
 
 static PATHS: [&str; 32] = [
     "/", "/a", "/a", "/a", "/a", "/a", "/a", "/b", "/b", "/b", "/b", "/b", "/f", "/f", "/f", "/f",
@@ -126,6 +132,12 @@ static TARGETS: [&str; 9] = [
 ];
 
 static SPECIALS: [&str; 3] = ["fifo", "fifo", "socket"];
+
+static MODES: [&str; 12] = [
+    "644", "644", "755", "600", "0", "7", "1777", "2750", "4711", "6755", "7777", "0640",
+];
+
+static IDS: [&str; 8] = ["-", "-", "0", "0", "1", "1000", "65534", "4294967295"];
 
 static BYTES: [&str; 3] = ["78", "00", "ff"];
 
@@ -187,6 +199,8 @@ fn words_of(kind: Kind) -> &'static [&'static str] {
         Kind::Length => &LENGTHS,
         Kind::Target => &TARGETS,
         Kind::Special => &SPECIALS,
+        Kind::Mode => &MODES,
+        Kind::Id => &IDS,
     }
 }
 

@@ -58,7 +58,7 @@ fn kind_of(reply: &Reply) -> usize {
 }
 
 // How many calls there are.
-const CALL_COUNT: usize = 26;
+const CALL_COUNT: usize = 30;
 
 // The calls, in the order of their indices.
 pub(crate) static CALLS: [&str; CALL_COUNT] = [
@@ -83,6 +83,10 @@ pub(crate) static CALLS: [&str; CALL_COUNT] = [
     "readlink",
     "lstat",
     "mknod",
+    "chmod",
+    "chown",
+    "fchmod",
+    "fchown",
     "dup",
     "dup2",
     "pipe",
@@ -116,11 +120,15 @@ fn index_of(call: &Call) -> usize
         Call::Readlink(_) => 18,
         Call::Lstat(_) => 19,
         Call::Mknod(_, _) => 20,
-        Call::Dup(_) => 21,
-        Call::Dup2(_, _) => 22,
-        Call::Pipe => 23,
-        Call::Fork => 24,
-        Call::Exit => 25,
+        Call::Chmod(_, _) => 21,
+        Call::Chown(_, _) => 22,
+        Call::Fchmod(_, _) => 23,
+        Call::Fchown(_, _) => 24,
+        Call::Dup(_) => 25,
+        Call::Dup2(_, _) => 26,
+        Call::Pipe => 27,
+        Call::Fork => 28,
+        Call::Exit => 29,
     }
 }
 

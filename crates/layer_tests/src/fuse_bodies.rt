@@ -13,7 +13,7 @@ pub(crate) fn body_of(opcode: u8) -> &'static [u8] {
         1 | 10 | 11 => b"name\0",
         2 | 36 => b"\x03\0\0\0\0\0\0\x01",
         3 => b"\x01\0\0\0\0\0\0\0\x07\0\0\0\0\0\0\x01",
-        4 => b"\xb9\0\0\0\0\0\0\0\0\0\0\0\0\0\0\0\x10\0\0\0\0\0\0\x01\0\0\0\0\0\0\0\0\
+        4 => b"\xb9\x08\0\0\0\0\0\0\0\0\0\0\0\0\0\0\x10\0\0\0\0\0\0\x01\0\0\0\0\0\0\0\0\
             \x04\0\0\0\0\0\0\x01\x05\0\0\0\0\0\0\x01\0\0\0\0\0\0\0\0\x07\0\0\0\x06\0\0\0\0\0\0\0\
             \xa4\x81\0\0\0\0\0\0\0\0\0\0\0\0\0\0\0\0\0\0",
         6 => b"name\0../to/it\0",
@@ -21,7 +21,7 @@ pub(crate) fn body_of(opcode: u8) -> &'static [u8] {
         9 => b"\xed\x01\0\0\x12\0\0\0name\0",
         12 => b"\x06\0\0\0\0\0\0\x01name\0other\0",
         13 => b"\x06\0\0\0\0\0\0\x01name\0",
-        14 => b"\x02\x80\0\0\0\0\0\0",
+        14 => b"\x02\x80\0\0\x01\0\0\0",
         15 => b"\x07\0\0\0\0\0\0\x01\0\x10\0\0\x01\0\0\0\0\x02\0\0\0\0\0\0\0\0\0\0\0\0\0\0\
             \x02\x80\0\0\0\0\0\0",
         16 => b"\x07\0\0\0\0\0\0\x01\0\x10\0\0\x01\0\0\0\x04\0\0\0\x01\0\0\0\0\0\0\0\0\0\0\0\
@@ -35,7 +35,7 @@ pub(crate) fn body_of(opcode: u8) -> &'static [u8] {
             \0\x80\x01\0\0\0\0\0",
         29 => b"\x07\0\0\0\0\0\0\x01\0\x80\x01\0\0\0\0\0\0\0\0\0\0\0\0\0",
         34 => b"\x04\0\0\0\0\0\0\0",
-        35 => b"\x42\0\0\0\xa4\x81\0\0\x12\0\0\0\0\0\0\0name\0",
+        35 => b"\x42\0\0\0\xa4\x81\0\0\x12\0\0\0\x01\0\0\0name\0",
         42 => b"\x02\0\0\0\0\0\0\0\x05\0\0\0\0\0\0\0\x01\0\0\0\0\0\0\0\
             \x06\0\0\0\0\0\0\0\x02\0\0\0\0\0\0\x01",
         45 => b"\x06\0\0\0\0\0\0\x01\x02\0\0\0\0\0\0\0name\0other\0",
@@ -84,12 +84,13 @@ fn are_changes(changes: &Changes) -> bool {
         && changes.mode == Some(0x81a4)
         && changes.uid.is_none()
         && changes.gid.is_none()
+        && changes.drops_set_ids
 }
 
 // Whether an operation is what the body of its opcode says, where it is of an open file.
 fn is_of_file(operation: &Operation, opcode: u8) -> bool {
     match operation {
-        Operation::Open { flags } => opcode == 14 && *flags == 0x8002,
+        Operation::Open { flags, how } => opcode == 14 && *flags == 0x8002 && *how == 1,
         Operation::Read {
             handle,
             offset,
@@ -158,9 +159,12 @@ fn is_of_name(operation: &Operation, opcode: u8) -> bool {
                 && (opcode == 12 && *flags == 0 || opcode == 45 && *flags == 2)
         }
         Operation::Link { node, new_name } => opcode == 13 && *node == SIX && is_name(new_name),
-        Operation::Create { name, flags, mode } => {
-            opcode == 35 && is_name(name) && *flags == 0x42 && *mode == 0x81a4
-        }
+        Operation::Create {
+            name,
+            flags,
+            mode,
+            how,
+        } => opcode == 35 && is_name(name) && *flags == 0x42 && *mode == 0x81a4 && *how == 1,
         _ => false,
     }
 }

@@ -24,6 +24,7 @@ use Rattle.mount_requests.specs.Seen.{Seen}
 use Rattle.mount_requests.specs.declared.failure.Failure.{Failure}
 use Rattle.mount_requests.specs.declared.opening.Opening.{Opening}
 use Rattle.mount_requests.specs.declared.opening.Opening.TheVariants.{Again, First}
+use Rattle.mount_requests.specs.declared.requests.Caller.{Caller}
 
 abbrev pub Roles : Type 0
 Roles = map.FinMap nat_cmp Role
@@ -108,34 +109,34 @@ look_up_keeps : (b : Bool) (s later : Seen) (pid node : ℕ) (name : List ℕ) (
 look_up_keeps true s later pid node name old new r h = keeps_is h.2
 look_up_keeps false s later pid node name old new r h = answers_keep (λ p x known told k. keeps_to k.1 (stands _ refl refl refl refl)) h
 
-pub answered_keeps : (s later : Seen) (pid node : ℕ) (o : Operation) (old new : Shown) (r : Result Reply Failure) → IsAnswered s later pid node o old new r → Keeps s later
-answered_keeps s later pid node (asked.Lookup name) old new r h = look_up_keeps (is_reserved node name) s later pid node name old new r h
-answered_keeps s later pid node (asked.GetAttr x) old new r h = answers_keep (λ p x known told k. keeps_is k.1) h
-answered_keeps s later pid node (asked.SetAttr x) old new r h = answers_keep (λ p x known told k. keeps_is k.1) h
-answered_keeps s later pid node asked.ReadLink old new r h = answers_keep (λ p x known told k. keeps_is k.1) h
-answered_keeps s later pid node asked.OpenDir old new r h = looks_keep (λ p x known told k. keeps_to k.1 (stands _ refl refl refl refl)) h
-answered_keeps s later pid node (asked.ReadDir x y z) old new r h = looks_keep (λ p x known told k. keeps_to k.1 (stands _ refl refl refl refl)) h
-answered_keeps s later pid node (asked.Access x) old new r h = keeps_is h.2
-answered_keeps s later pid node (asked.SymLink x y) old new r h = answers_keep (λ p x known told k. keeps_to k.1 (stands _ refl refl refl refl)) h
-answered_keeps s later pid node (asked.MkNod x y) old new r h = answers_keep (λ p x known told k. keeps_to k.1 (stands _ refl refl refl refl)) h
-answered_keeps s later pid node (asked.MkDir x y) old new r h = answers_keep (λ p x known told k. keeps_to k.1 (stands _ refl refl refl refl)) h
-answered_keeps s later pid node (asked.Unlink x) old new r h = answers_keep (λ p x known told k. keeps_to k.1 (stands _ refl refl refl refl)) h
-answered_keeps s later pid node (asked.RmDir x) old new r h = answers_keep (λ p x known told k. keeps_to k.1 (stands _ refl refl refl refl)) h
-answered_keeps s later pid node (asked.Rename x y z w) old new r h = answers_keep (λ p x known told k. keeps_to k.1 (stands _ refl refl refl refl)) h
-answered_keeps s later pid node (asked.Link x y) old new r h = answers_keep (λ p x known told k. keeps_to k.1 (stands _ refl refl refl refl)) h
-answered_keeps s later pid node (asked.Create x y z) old new r h = answers_keep (λ p made known told k. keeps_to k.1 (created_keeps s p.view pid made _ refl refl refl refl)) h
-answered_keeps s later pid node (asked.Open x) old new r h = answers_keep (λ p fd known told k. keeps_to k.1 (opening_keeps s pid p fd)) h
-answered_keeps s later pid node (asked.Read x y z w) old new r h = answers_keep (λ p x known told k. keeps_is k.1) h
-answered_keeps s later pid node (asked.Write x y z w v) old new r h = answers_keep (λ p x known told k. keeps_is k.1) h
-answered_keeps s later pid node (asked.Lseek x y z) old new r h = answers_keep (λ p x known told k. keeps_is k.1) h
-answered_keeps s later pid node (asked.Forget x) old new r h = keeps_is h.2
-answered_keeps s later pid node (asked.BatchForget x) old new r h = keeps_is h.2
-answered_keeps s later pid node (asked.Flush x) old new r h = keeps_is h.2
-answered_keeps s later pid node (asked.Release x y) old new r h = keeps_is h.2
-answered_keeps s later pid node (asked.Fsync x) old new r h = keeps_is h.2
-answered_keeps s later pid node (asked.ReleaseDir x) old new r h = keeps_is h.2
-answered_keeps s later pid node asked.StatFs old new r h = keeps_is h.2
-answered_keeps s later pid node (asked.Init x y z w) old new r h = keeps_is h.2
-answered_keeps s later pid node asked.Destroy old new r h = keeps_is h.2
-answered_keeps s later pid node (asked.Interrupt x) old new r h = keeps_is h.2
-answered_keeps s later pid node (asked.Other x) old new r h = keeps_is h.2
+pub answered_keeps : (s later : Seen) (pid : ℕ) (who : Caller) (o : Operation) (old new : Shown) (r : Result Reply Failure) → IsAnswered s later pid who o old new r → Keeps s later
+answered_keeps s later pid who (asked.Lookup name) old new r h = look_up_keeps (is_reserved who.node name) s later pid who.node name old new r h
+answered_keeps s later pid who (asked.GetAttr x) old new r h = answers_keep (λ p x known told k. keeps_is k.1) h
+answered_keeps s later pid who (asked.SetAttr x) old new r h = answers_keep (λ p x known told k. keeps_is k.1) h
+answered_keeps s later pid who asked.ReadLink old new r h = answers_keep (λ p x known told k. keeps_is k.1) h
+answered_keeps s later pid who asked.OpenDir old new r h = looks_keep (λ p x known told k. keeps_to k.1 (stands _ refl refl refl refl)) h
+answered_keeps s later pid who (asked.ReadDir x y z) old new r h = looks_keep (λ p x known told k. keeps_to k.1 (stands _ refl refl refl refl)) h
+answered_keeps s later pid who (asked.Access x) old new r h = keeps_is h.2
+answered_keeps s later pid who (asked.SymLink x y) old new r h = answers_keep (λ p x known told k. keeps_to k.1 (stands _ refl refl refl refl)) h
+answered_keeps s later pid who (asked.MkNod x y) old new r h = answers_keep (λ p x known told k. keeps_to k.1 (stands _ refl refl refl refl)) h
+answered_keeps s later pid who (asked.MkDir x y) old new r h = answers_keep (λ p x known told k. keeps_to k.1 (stands _ refl refl refl refl)) h
+answered_keeps s later pid who (asked.Unlink x) old new r h = answers_keep (λ p x known told k. keeps_to k.1 (stands _ refl refl refl refl)) h
+answered_keeps s later pid who (asked.RmDir x) old new r h = answers_keep (λ p x known told k. keeps_to k.1 (stands _ refl refl refl refl)) h
+answered_keeps s later pid who (asked.Rename x y z w) old new r h = answers_keep (λ p x known told k. keeps_to k.1 (stands _ refl refl refl refl)) h
+answered_keeps s later pid who (asked.Link x y) old new r h = answers_keep (λ p x known told k. keeps_to k.1 (stands _ refl refl refl refl)) h
+answered_keeps s later pid who (asked.Create x y z w) old new r h = answers_keep (λ p made known told k. keeps_to k.1 (created_keeps s p.view pid made _ refl refl refl refl)) h
+answered_keeps s later pid who (asked.Open x y) old new r h = answers_keep (λ p fd known told k. keeps_to k.1 (opening_keeps s pid p fd)) h
+answered_keeps s later pid who (asked.Read x y z w) old new r h = answers_keep (λ p x known told k. keeps_is k.1) h
+answered_keeps s later pid who (asked.Write x y z w v) old new r h = answers_keep (λ p x known told k. keeps_is k.1) h
+answered_keeps s later pid who (asked.Lseek x y z) old new r h = answers_keep (λ p x known told k. keeps_is k.1) h
+answered_keeps s later pid who (asked.Forget x) old new r h = keeps_is h.2
+answered_keeps s later pid who (asked.BatchForget x) old new r h = keeps_is h.2
+answered_keeps s later pid who (asked.Flush x) old new r h = keeps_is h.2
+answered_keeps s later pid who (asked.Release x y) old new r h = keeps_is h.2
+answered_keeps s later pid who (asked.Fsync x) old new r h = keeps_is h.2
+answered_keeps s later pid who (asked.ReleaseDir x) old new r h = keeps_is h.2
+answered_keeps s later pid who asked.StatFs old new r h = keeps_is h.2
+answered_keeps s later pid who (asked.Init x y z w) old new r h = keeps_is h.2
+answered_keeps s later pid who asked.Destroy old new r h = keeps_is h.2
+answered_keeps s later pid who (asked.Interrupt x) old new r h = keeps_is h.2
+answered_keeps s later pid who (asked.Other x) old new r h = keeps_is h.2

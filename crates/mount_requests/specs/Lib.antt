@@ -2,6 +2,7 @@ pub mod Failures
 pub mod Seen
 pub mod Found
 pub mod Answers
+pub mod Asked
 pub mod Told
 pub mod Listed
 pub mod Requests

@@ -26,7 +26,7 @@ pub record Seen : Type 0 where
   pub next_view : ℕ
   pub roles : map.FinMap nat_cmp Role
 
--- what is seen of the tables. Room, and what stands of modes, owners and times, are no part of it.
+-- what is seen of the tables. Room, and times, are no part of it.
 abbrev pub seen : Tables → Seen
 seen t = record {
   nodes = t.nodes.table;

@@ -3,27 +3,27 @@ ghost use Rattle.std.specs.Prelude.{◌≡◌, ◌<◌, IfOk};
 ghost use Rattle.nodes.specs.Tables.{looked_up, made};
 ghost use Rattle.course.specs.Hands.{bound};
 ghost use Rattle.mount_requests.specs.Answers.{IsPlanned};
+ghost use Rattle.mount_requests.specs.Asked.{given, special_in};
 ghost use Rattle.mount_requests.specs.Requests.{AnswersLink, AnswersMkDir, AnswersMkNod, AnswersSymLink};
-ghost use Rattle.mount_requests.specs.Requests.{linking_in, planned_node, special_in};
+ghost use Rattle.mount_requests.specs.Requests.{linking_in, planned_node};
 ghost use Rattle.mount_requests.specs.Seen.{seen};
 ghost use Rattle.mount_requests.specs.Told.{IsEntry};
 
 use crate::failure::Failure;
-use crate::planning::{Located, LocatedName, in_one_view, twice};
+use crate::planning::{Located, LocatedName, NewName, in_one_view, twice};
 use crate::requests::Caller;
 use crate::tables::Tables;
-use course::{Hand, Place, Twice};
+use course::{Hand, Place, Twice, permissions_in};
 use fuse::bits::{MODE_FILE, MODE_PERMISSIONS, MODE_PIPE, MODE_SOCKET};
 use fuse::{Entry, Errno, Reply};
-use ids::{Bytes, Kind, Num, Special, Stat};
+use ids::{Bytes, Num, Owner, Rights, Special, Stat};
 use machine::Machine;
-use mount_tables::{LINK_MODE, Owner};
 use nodes::Spot;
 
 // What is to be made, and where: a plain file, a FIFO or a socket.
 #[derive(Drop)]
 pub(crate) struct NewNode {
-    at: LocatedName,
+    at: NewName,
     special: Option<Special>,
 }
 
@@ -57,6 +57,16 @@ fn special_in(mode: u32) -> Result<Option<Special>, Failure>
     }
 }
 
+// What its maker gives to something that is made: itself as owner, and the permissions of a mode.
+pub(crate) fn given(owner: Owner, mode: u32) -> Rights
+    ensures { result ≡ given owner mode }
+{
+    Rights {
+        permissions: permissions_in(mode),
+        owner,
+    }
+}
+
 impl Tables {
     // The names of a directory were changed.
     pub(crate) fn note_names(&mut self, node: u64)
@@ -66,7 +76,7 @@ impl Tables {
     {
         if self.nodes.is_current(node) {
             let parent = self.inode_of(node);
-            self.attributes.modify(parent, Kind::Dir);
+            self.attributes.modify(parent);
         }
     }
 
@@ -84,7 +94,7 @@ impl Tables {
     }
 
     // What is kept and told of an object that was made.
-    fn entry_made(&mut self, spot: Spot, stat: &Stat, mode: u32, owner: Owner) -> Entry
+    fn entry_made(&mut self, spot: Spot, stat: &Stat) -> Entry
         requires room { 0 < self.old.nodes.room }
         requires birth { 0 < self.old.nodes.birth_room }
         ensures entry { IsEntry (made self.old.nodes.table stat.now.num) spot stat.now result }
@@ -93,7 +103,7 @@ impl Tables {
               stat.now.num stat.now.kind;
         } }
     {
-        self.attributes.create(stat.num, mode, owner);
+        self.attributes.create(stat.num);
         self.note_names(spot.entry().parent);
         self.note_birth(stat.num);
         self.entry(spot, stat)
@@ -108,18 +118,19 @@ impl Tables {
         mode: u32,
     ) -> Result<Reply, Failure>
         ensures bound { bound hand.new ≡ bound hand.old }
-        ensures answers { AnswersMkDir (seen self.old) (seen self.new) hand.old.pid caller.node
-            name.now hand.old.shown hand.new.shown result }
+        ensures answers { AnswersMkDir (seen self.old) (seen self.new) hand.old.pid caller
+            name.now mode hand.old.shown hand.new.shown result }
     {
-        let LocatedName {
+        let NewName {
             view: _,
             path,
-            place,
-        } = self.locate_new(caller.node, name)?;
-        let Twice { first, second } = twice(path)?;
+            again,
+            parent,
+        } = self.locate_made(caller.node, name)?;
         let spot = self.spot_for(caller.node, name)?;
-        let stat = course::make_directory(hand, place, first, second)?;
-        let entry = self.entry_made(spot, &stat, mode, caller.owner);
+        let rights = given(caller.owner, mode);
+        let stat = course::make_directory(hand, parent, path, again, rights)?;
+        let entry = self.entry_made(spot, &stat);
         Ok(Reply::Entry(entry))
     }
 
@@ -132,18 +143,18 @@ impl Tables {
         target: Bytes,
     ) -> Result<Reply, Failure>
         ensures bound { bound hand.new ≡ bound hand.old }
-        ensures answers { AnswersSymLink (seen self.old) (seen self.new) hand.old.pid caller.node
+        ensures answers { AnswersSymLink (seen self.old) (seen self.new) hand.old.pid caller
             name.now target hand.old.shown hand.new.shown result }
     {
-        let LocatedName {
+        let NewName {
             view: _,
             path,
-            place,
-        } = self.locate_new(caller.node, name)?;
-        let Twice { first, second } = twice(path)?;
+            again,
+            parent,
+        } = self.locate_made(caller.node, name)?;
         let spot = self.spot_for(caller.node, name)?;
-        let stat = course::make_link(hand, place, target, first, second)?;
-        let entry = self.entry_made(spot, &stat, LINK_MODE, caller.owner);
+        let stat = course::make_link(hand, parent, target, path, again, caller.owner)?;
+        let entry = self.entry_made(spot, &stat);
         Ok(Reply::Entry(entry))
     }
 
@@ -152,7 +163,7 @@ impl Tables {
         ensures { IsPlanned (planned_node (seen self.now) node name.now mode) result }
     {
         let special = special_in(mode)?;
-        let at = self.locate_new(node, name)?;
+        let at = self.locate_made(node, name)?;
         Ok(NewNode { at, special })
     }
 
@@ -165,19 +176,20 @@ impl Tables {
         mode: u32,
     ) -> Result<Reply, Failure>
         ensures bound { bound hand.new ≡ bound hand.old }
-        ensures answers { AnswersMkNod (seen self.old) (seen self.new) hand.old.pid caller.node
+        ensures answers { AnswersMkNod (seen self.old) (seen self.new) hand.old.pid caller
             name.now mode hand.old.shown hand.new.shown result }
     {
         let NewNode { at, special } = self.plan_node(caller.node, name, mode)?;
-        let LocatedName {
+        let NewName {
             view: _,
             path,
-            place,
+            again,
+            parent,
         } = at;
-        let Twice { first, second } = twice(path)?;
         let spot = self.spot_for(caller.node, name)?;
-        let stat = course::make_node(hand, place, first, second, special)?;
-        let entry = self.entry_made(spot, &stat, mode, caller.owner);
+        let rights = given(caller.owner, mode);
+        let stat = course::make_node(hand, parent, path, again, special, rights)?;
+        let entry = self.entry_made(spot, &stat);
         Ok(Reply::Entry(entry))
     }
 

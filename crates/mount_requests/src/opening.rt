@@ -1,23 +1,25 @@
 // Requests that open files.
-ghost use Rattle.std.specs.Prelude.{◌≡◌, ◌<◌, is_some, IfOk, Ok, OnOk};
+ghost use Rattle.std.specs.Prelude.{◌≡◌, ◌<◌, is_some, Ok, OnOk};
 ghost use Rattle.course.specs.Course.{Ran};
 ghost use Rattle.course.specs.Hands.{bound};
 ghost use Rattle.mount_requests.specs.Answers.{IsPlanned};
-ghost use Rattle.mount_requests.specs.Found.{handle_of, name_at};
-ghost use Rattle.mount_requests.specs.Requests.{AnswersCreate, AnswersOpen, OpensAs, born_if, cuts};
-ghost use Rattle.mount_requests.specs.Requests.{handle_made, is_exclusive, making_open, opened_again};
-ghost use Rattle.mount_requests.specs.Requests.{opened_first, opening, opening_by, with_open};
+ghost use Rattle.mount_requests.specs.Asked.{creation, cut_by, cuts, has_flag, is_exclusive};
+ghost use Rattle.mount_requests.specs.Found.{handle_of};
+ghost use Rattle.mount_requests.specs.Requests.{AnswersCreate, AnswersOpen, OpensAs, born_if};
+ghost use Rattle.mount_requests.specs.Requests.{handle_made, making_open, opened_again, opened_first};
+ghost use Rattle.mount_requests.specs.Requests.{opening, opening_by, with_open};
 ghost use Rattle.mount_requests.specs.Seen.{seen};
 ghost use Rattle.mount_requests.specs.declared.opening.Opening.TheVariants.{Again, First};
 
 use crate::failure::Failure;
-use crate::planning::{Located, LocatedName, twice};
+use crate::making::given;
+use crate::planning::{Located, NewName};
 use crate::requests::Caller;
 use crate::tables::{Stepper, Tables};
-use course::{Fault, Hand, Made, Place, Twice, close_spare, create_cut, cut_if, open_cut};
-use fuse::bits::{OPEN_EXCLUSIVE, OPEN_TRUNCATE, OPENED_DIRECT};
+use course::{Cut, Fault, Hand, Made, close_spare, create_cut, cut_if, open_cut};
+use fuse::bits::{OPEN_DROPS_SET_IDS, OPEN_EXCLUSIVE, OPEN_TRUNCATE, OPENED_DIRECT};
 use fuse::{Errno, Opened, Reply};
-use ids::{Bytes, Fd, Kind, Num, Pid};
+use ids::{Bytes, Fd, Num, Owner, Pid, Rights};
 use machine::Machine;
 use mount_tables::PLAIN;
 use std::alloc::AllocError;
@@ -29,6 +31,14 @@ pub(crate) enum Opening {
     Again { inode: Num, handle: u64, fd: Fd },
     // By its path, where that gives this object.
     First { view: u64, path: Bytes, inode: Num },
+}
+
+// How a file is made, and what its maker gives to it.
+#[derive(Clone, Copy)]
+pub(crate) struct Creation {
+    exclusive: bool,
+    cut: Cut,
+    given: Rights,
 }
 
 // An open file as it is told: reads and writes go past the cache.
@@ -48,6 +58,28 @@ fn cuts(flags: u32) -> bool
     flags & OPEN_TRUNCATE != 0
 }
 
+// Whether set-user-ID and set-group-ID go then.
+fn drops(how: u32) -> bool
+    ensures { result ≡ has_flag how 1 }
+{
+    how & OPEN_DROPS_SET_IDS != 0
+}
+
+// Both.
+fn cut_by(flags: u32, how: u32) -> Cut
+    ensures { result ≡ cut_by flags how }
+{
+    if cuts(flags) {
+        if drops(how) {
+            Cut::Dropping
+        } else {
+            Cut::Plain
+        }
+    } else {
+        Cut::No
+    }
+}
+
 // Whether it has to be a new one.
 fn is_exclusive(flags: u32) -> bool
     ensures { result ≡ is_exclusive flags }
@@ -55,15 +87,27 @@ fn is_exclusive(flags: u32) -> bool
     flags & OPEN_EXCLUSIVE != 0
 }
 
+// How a file is made by these flags and this mode.
+pub(crate) fn creation(owner: Owner, flags: u32, mode: u32, how: u32) -> Creation
+    ensures { result ≡ creation owner flags mode how }
+{
+    Creation {
+        exclusive: is_exclusive(flags),
+        cut: cut_by(flags, how),
+        given: given(owner, mode),
+    }
+}
+
 impl Tables {
     // The bytes of an object went, where it was cut.
-    fn note_cut(&mut self, inode: Num, cut: bool)
+    fn note_cut(&mut self, inode: Num, cut: Cut)
         ensures seen { seen self.new ≡ seen self.old }
         ensures nodes { self.new.nodes ≡ self.old.nodes }
         ensures files { self.new.files ≡ self.old.files }
     {
-        if cut {
-            self.attributes.modify(inode, Kind::File);
+        match cut {
+            Cut::No => {}
+            Cut::Plain | Cut::Dropping => self.attributes.modify(inode),
         }
     }
 
@@ -106,7 +150,7 @@ impl Tables {
         inode: Num,
         handle: u64,
         fd: Fd,
-        cut: bool,
+        cut: Cut,
     ) -> Result<Reply, Failure>
         ensures bound { bound hand.new ≡ bound hand.old }
         ensures answers { OpensAs (seen self.old) (seen self.new) hand.old.pid cut
@@ -124,7 +168,7 @@ impl Tables {
         hand: &mut Hand<K>,
         located: Located,
         inode: Num,
-        cut: bool,
+        cut: Cut,
     ) -> Result<Reply, Failure>
         ensures bound { bound hand.new ≡ bound hand.old }
         ensures answers { OpensAs (seen self.old) (seen self.new) hand.old.pid cut
@@ -142,7 +186,7 @@ impl Tables {
         &mut self,
         hand: &mut Hand<K>,
         opening: Opening,
-        cut: bool,
+        cut: Cut,
     ) -> Result<Reply, Failure>
         ensures bound { bound hand.new ≡ bound hand.old }
         ensures answers { OpensAs (seen self.old) (seen self.new) hand.old.pid cut (Ok opening)
@@ -194,13 +238,14 @@ impl Tables {
         hand: &mut Hand<K>,
         node: u64,
         flags: u32,
+        how: u32,
     ) -> Result<Reply, Failure>
         ensures bound { bound hand.new ≡ bound hand.old }
-        ensures answers { AnswersOpen (seen self.old) (seen self.new) hand.old.pid node flags
+        ensures answers { AnswersOpen (seen self.old) (seen self.new) hand.old.pid node flags how
             hand.old.shown hand.new.shown result }
     {
         let opening = self.plan_opening(hand.pid(), node)?;
-        self.open_as(hand, opening, cuts(flags))
+        self.open_as(hand, opening, cut_by(flags, how))
     }
 
     // Whether a file is open in a view.
@@ -215,20 +260,25 @@ impl Tables {
     fn make_open<K: Machine>(
         &self,
         hand: &mut Hand<K>,
-        view: u64,
-        path: Twice,
-        place: Option<Place>,
-        flags: u32,
+        wanted: NewName,
+        creation: Creation,
     ) -> Result<Made, Fault>
-        requires { path.second ≡ path.first }
         ensures bound { bound hand.new ≡ bound hand.old }
         ensures ran { Ran hand.old.shown
-            (making_open (seen self.now) hand.old.pid flags (name_at view path.first place))
-            result hand.new.shown }
+            (making_open (seen self.now) hand.old.pid creation wanted) result hand.new.shown }
     {
-        let exclusive = is_exclusive(flags);
-        let cut = cuts(flags);
-        let made = create_cut(hand, place, path.first, path.second, exclusive, cut)?;
+        let NewName {
+            view,
+            path,
+            again,
+            parent,
+        } = wanted;
+        let Creation {
+            exclusive,
+            cut,
+            given,
+        } = creation;
+        let made = create_cut(hand, parent, path, again.told, exclusive, cut, given)?;
         let is_open = self.is_open(view, &made);
         close_spare(hand, is_open, made)
     }
@@ -250,7 +300,7 @@ impl Tables {
     }
 
     // What is kept of a file that was made, or of one that was there and may be cut.
-    fn note_opened(&mut self, caller: Caller, made: &Made, mode: u32, cut: bool)
+    fn note_opened(&mut self, node: u64, made: &Made, cut: Cut)
         requires { 0 < self.old.nodes.birth_room }
         ensures seen { seen self.new ≡ record (seen self.old) {
           nodes = born_if made.now.is_new self.old.nodes.table made.now.stat.num;
@@ -259,8 +309,8 @@ impl Tables {
         ensures files { self.new.files ≡ self.old.files }
     {
         if made.is_new {
-            self.attributes.create(made.stat.num, mode, caller.owner);
-            self.note_names(caller.node);
+            self.attributes.create(made.stat.num);
+            self.note_names(node);
             self.note_birth(made.stat.num);
         } else {
             self.note_cut(made.stat.num, cut);
@@ -273,19 +323,18 @@ impl Tables {
         hand: &mut Hand<K>,
         caller: Caller,
         name: &Bytes,
-        flags: u32,
-        mode: u32,
+        creation: Creation,
     ) -> Result<Reply, Failure>
         ensures bound { bound hand.new ≡ bound hand.old }
-        ensures answers { AnswersCreate (seen self.old) (seen self.new) hand.old.pid caller.node
-            name.now flags hand.old.shown hand.new.shown result }
+        ensures answers { AnswersCreate (seen self.old) (seen self.new) hand.old.pid caller
+            name.now creation hand.old.shown hand.new.shown result }
     {
-        let LocatedName { view, path, place } = self.locate_new(caller.node, name)?;
-        let path = twice(path)?;
+        let wanted = self.locate_made(caller.node, name)?;
+        let view = wanted.view;
         self.reserve_file()?;
         let spot = self.spot_for(caller.node, name)?;
-        let made = self.make_open(hand, view, path, place, flags)?;
-        self.note_opened(caller, &made, mode, cuts(flags));
+        let made = self.make_open(hand, wanted, creation)?;
+        self.note_opened(caller.node, &made, creation.cut);
         let handle = self.keep_made(view, hand.pid(), &made);
         let entry = self.entry(spot, &made.stat);
         Ok(Reply::Created {

@@ -28,7 +28,7 @@ pub struct Tables {
     pub files: OpenFiles,
     /// The directories that are open.
     pub folders: Folders,
-    /// Modes, owners and times.
+    /// Times.
     pub attributes: AttributeTable,
     /// The processes by which requests step.
     pub processes: Processes,

@@ -1,25 +1,19 @@
-// Modes, owners and times of objects, by their numbers: what was set last, whoever set it.
-ghost use Rattle.std.specs.Prelude.{◌≡◌, ◌*◌, ◌/◌};
+// What is told of objects, and their times, by their numbers: what was set last, whoever set it.
+ghost use Rattle.std.specs.Prelude.{◌≡◌, ◌+◌, ◌*◌, ◌<◌};
 ghost use Rattle.mount_tables.specs.Attributes.{IsLike, kind_number};
 
 use crate::by_number::ByNumber;
 use fuse::{Attr, Changes, Time, TimeChange};
 use heap::Heap;
-use ids::{Kind, Num, Stat};
+use ids::{Kind, Num, Permissions, Stat};
 use std::alloc::AllocError;
 
-// The permissions of what was never told any.
+// The permissions of what is no object of the kernel.
 const FILE_MODE: u32 = 0o644;
 
 const DIRECTORY_MODE: u32 = 0o755;
 
-/// The permissions of a symbolic link. Nobody looks at them, and nobody changes them.
-pub const LINK_MODE: u32 = 0o777;
-
-// The bits of a mode above permissions tell a kind.
-const KINDS: u32 = 0o10000;
-
-// The kinds of Linux.
+// The kinds of Linux, which stand above the permissions of a mode.
 const DIRECTORY: u32 = 0o040_000;
 
 const FILE: u32 = 0o100_000;
@@ -45,28 +39,17 @@ const START: Time = Time {
     nanoseconds: 0,
 };
 
-/// The user and the group that something belongs to.
-#[derive(Clone, Copy, Debug)]
-pub struct Owner {
-    /// The user.
-    pub uid: u32,
-    /// The group.
-    pub gid: u32,
-}
-
 // What is kept of one object.
 #[derive(Clone, Copy, Debug)]
-struct Attributes {
-    mode: u32,
-    owner: Owner,
+struct Times {
     accessed: Time,
     modified: Time,
     changed: Time,
 }
 
-/// What is kept of all objects, and the latest time that was told or given.
+/// The times of all objects, and the latest time that was told or given.
 pub struct AttributeTable {
-    each: ByNumber<Attributes>,
+    each: ByNumber<Times>,
     now: Time,
 }
 
@@ -107,7 +90,8 @@ fn changed_time(change: Option<TimeChange>, before: Time) -> Time {
 
 // The bits of a kind.
 fn kind_bits(kind: Kind) -> u32
-    ensures { result ≡ kind_number kind * 4096 }
+    ensures value { result ≡ kind_number kind * 4096 }
+    ensures small { result < 65536 }
 {
     match kind {
         Kind::File => FILE,
@@ -119,34 +103,23 @@ fn kind_bits(kind: Kind) -> u32
 }
 
 // The mode of a kind with these permissions.
-fn mode_of(kind: Kind, permissions: u32) -> u32
-    ensures { result / 4096 ≡ kind_number kind }
+fn mode_of(kind: Kind, permissions: Permissions) -> u32
+    ensures { result ≡ kind_number kind * 4096 + permissions }
 {
-    kind_bits(kind) + permissions % KINDS
-}
-
-// The permissions of a kind where none were told.
-fn first_mode(kind: Kind) -> u32 {
-    match kind {
-        Kind::Dir => DIRECTORY_MODE,
-        Kind::Link => LINK_MODE,
-        _ => FILE_MODE,
-    }
+    kind_bits(kind) + u32::from(permissions.bits())
 }
 
 // What an object has of which nothing is kept.
-fn first_of(kind: Kind) -> Attributes {
-    Attributes {
-        mode: first_mode(kind),
-        owner: Owner { uid: 0, gid: 0 },
+fn first_times() -> Times {
+    Times {
         accessed: START,
         modified: START,
         changed: START,
     }
 }
 
-// What is told of an object that has these.
-fn attr_by(stat: &Stat, kept: Attributes) -> Attr
+// What is told of an object that has these times.
+fn attr_by(stat: &Stat, kept: Times) -> Attr
     ensures { IsLike stat.now result }
 {
     Attr {
@@ -156,10 +129,10 @@ fn attr_by(stat: &Stat, kept: Attributes) -> Attr
         accessed: kept.accessed,
         modified: kept.modified,
         changed: kept.changed,
-        mode: mode_of(stat.kind, kept.mode),
+        mode: mode_of(stat.kind, stat.rights.permissions),
         links: stat.links,
-        uid: kept.owner.uid,
-        gid: kept.owner.gid,
+        uid: stat.rights.owner.user,
+        gid: stat.rights.owner.group,
         blksize: BEST_SIZE,
     }
 }
@@ -197,10 +170,10 @@ impl AttributeTable {
     }
 
     // What is kept of an object, or would be.
-    fn of(&self, inode: Num, kind: Kind) -> Attributes {
+    fn of(&self, inode: Num) -> Times {
         match self.each.get(inode.0 as u64) {
-            Some(attributes) => *attributes,
-            None => first_of(kind),
+            Some(times) => *times,
+            None => first_times(),
         }
     }
 
@@ -209,25 +182,23 @@ impl AttributeTable {
         self.each.reserve()
     }
 
-    // Keeps what is told of an object. One of which nothing was kept wants room, or memory: without
-    // either it is not kept.
-    fn keep(&mut self, inode: Num, attributes: Attributes) {
+    // Keeps the times of an object. One of which none were kept wants room, or memory: without either
+    // they are not kept.
+    fn keep(&mut self, inode: Num, times: Times) {
         let number = inode.0 as u64;
         if self.each.get(number).is_some() {
-            self.each.set(number, attributes);
+            self.each.set(number, times);
         } else {
-            let _kept = self.each.insert(number, attributes);
+            let _kept = self.each.insert(number, times);
         }
     }
 
     /// An object was made.
-    pub fn create(&mut self, inode: Num, mode: u32, owner: Owner) {
+    pub fn create(&mut self, inode: Num) {
         let now = self.tick();
         self.keep(
             inode,
-            Attributes {
-                mode: mode % KINDS,
-                owner,
+            Times {
                 accessed: now,
                 modified: now,
                 changed: now,
@@ -236,48 +207,39 @@ impl AttributeTable {
     }
 
     /// The bytes of a file or the names of a directory were changed.
-    pub fn modify(&mut self, inode: Num, kind: Kind) {
+    pub fn modify(&mut self, inode: Num) {
         let now = self.tick();
-        let mut attributes = self.of(inode, kind);
-        attributes.modified = now;
-        attributes.changed = now;
-        self.keep(inode, attributes);
+        let mut times = self.of(inode);
+        times.modified = now;
+        times.changed = now;
+        self.keep(inode, times);
     }
 
-    /// What a request sets, but for the length.
-    pub fn change(&mut self, stat: &Stat, changes: &Changes) {
+    /// What a request has set: times, and what changes them.
+    pub fn change(&mut self, inode: Num, changes: &Changes) {
         let now = self.tick();
-        let mut attributes = self.of(stat.num, stat.kind);
-        if let Some(mode) = changes.mode {
-            attributes.mode = mode % KINDS;
-        }
-        if let Some(uid) = changes.uid {
-            attributes.owner.uid = uid;
-        }
-        if let Some(gid) = changes.gid {
-            attributes.owner.gid = gid;
-        }
+        let mut times = self.of(inode);
         if changes.size.is_some() {
-            attributes.modified = now;
+            times.modified = now;
         }
-        attributes.accessed = changed_time(changes.accessed, attributes.accessed);
-        attributes.modified = changed_time(changes.modified, attributes.modified);
-        attributes.changed = now;
-        self.keep(stat.num, attributes);
+        times.accessed = changed_time(changes.accessed, times.accessed);
+        times.modified = changed_time(changes.modified, times.modified);
+        times.changed = now;
+        self.keep(inode, times);
     }
 
     /// What is told of an object. Its number is one more, since some programs take 0 for none.
     pub fn attr(&self, stat: &Stat) -> Attr
         ensures { IsLike stat.now result }
     {
-        attr_by(stat, self.of(stat.num, stat.kind))
+        attr_by(stat, self.of(stat.num))
     }
 
-    /// What is told of an object of which nothing is kept, as where its number has gone to another.
+    /// What is told of an object whose times are not kept, as where its number has gone to another.
     pub fn first_attr(&self, stat: &Stat) -> Attr
         ensures { IsLike stat.now result }
     {
-        attr_by(stat, first_of(stat.kind))
+        attr_by(stat, first_times())
     }
 
     /// What is told of a node that is no object of the kernel.

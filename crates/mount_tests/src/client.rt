@@ -160,16 +160,19 @@ fn of_name(verb: &str, name: Bytes) -> Operation {
             name,
             flags: BOTH,
             mode: 0o600,
+            how: 0,
         },
         "create_new" => Operation::Create {
             name,
             flags: BOTH | OPEN_EXCLUSIVE,
             mode: 0o600,
+            how: 0,
         },
         "create_cut" => Operation::Create {
             name,
             flags: BOTH | OPEN_TRUNCATE,
             mode: 0o600,
+            how: 0,
         },
         "unlink" => Operation::Unlink { name },
         _ => Operation::RmDir { name },
@@ -197,16 +200,24 @@ fn writing(verb: &str, handle: u64, bytes: Bytes) -> Operation {
     }
 }
 
-fn resizing(length: &str) -> Operation {
+// A length is set, or a mode and a user, by a decimal number.
+fn setting(verb: &str, number: &str) -> Operation {
+    let number = number.parse::<u32>().unwrap_or(0);
+    let (size, rights) = if verb == "rights" {
+        (None, Some(number))
+    } else {
+        (Some(u64::from(number)), None)
+    };
     Operation::SetAttr {
         changes: Changes {
             handle: None,
-            size: Some(length.parse::<u64>().unwrap_or(0)),
+            size,
             accessed: None,
             modified: None,
-            mode: None,
-            uid: None,
+            mode: rights,
+            uid: rights,
             gid: None,
+            drops_set_ids: false,
         },
     }
 }
@@ -243,9 +254,13 @@ fn of_open(verb: &str, file: u64, folder: u64) -> Operation {
 fn of_node(verb: &str) -> Option<Operation> {
     match verb {
         "getattr" => Some(Operation::GetAttr { handle: None }),
-        "open" => Some(Operation::Open { flags: BOTH }),
+        "open" => Some(Operation::Open {
+            flags: BOTH,
+            how: 0,
+        }),
         "cut" => Some(Operation::Open {
             flags: BOTH | OPEN_TRUNCATE,
+            how: 0,
         }),
         "readlink" => Some(Operation::ReadLink),
         "opendir" => Some(Operation::OpenDir),
@@ -259,7 +274,7 @@ fn on_node<K: Machine>(rt: &impl Abort, client: &mut Client<K>, line: Line<'_>) 
     let node = node_of(rt, client, line.path);
     let operation = match line.verb {
         "write" | "append" => writing(line.verb, client.file, owned(rt, client.heap, line.other)),
-        "length" => resizing(line.other),
+        "length" | "rights" => setting(line.verb, line.other),
         verb => match of_node(verb) {
             Some(operation) => operation,
             None => of_open(verb, client.file, client.folder),

@@ -3,7 +3,7 @@ use crate::acts::Act;
 use crate::courses::{Course, check_courses};
 use kernel::Kernel;
 
-static NAMES: [Course; 20] = [
+static NAMES: [Course; 22] = [
     Course {
         act: Act::Link,
         before: "1 open /a RDWR,CREAT
@@ -43,50 +43,150 @@ static NAMES: [Course; 20] = [
     Course {
         act: Act::MakeDirectory,
         before: "",
-        whole: "1 mkdir /a
+        whole: "1 lstat /
+1 mkdir /a
+1 chown /a 1 2
+1 chmod /a 700
 1 lstat /a",
         told: None,
-        refused: &[""],
+        refused: &[
+            "1 lstat /",
+            "1 lstat /
+1 mkdir /a",
+            "1 lstat /
+1 mkdir /a
+1 chown /a 1 2",
+        ],
     },
     Course {
         act: Act::MakeDirectory,
         before: "1 begin",
-        whole: "1 mkdir /a
+        whole: "1 lstat /
+1 mkdir /a
+1 chown /a 1 2
+1 chmod /a 700
 1 lstat /a",
         told: None,
-        refused: &["", "1 mkdir /a"],
+        refused: &[
+            "",
+            "1 lstat /",
+            "1 lstat /
+1 mkdir /a",
+            "1 lstat /
+1 mkdir /a
+1 chown /a 1 2",
+            "1 lstat /
+1 mkdir /a
+1 chown /a 1 2
+1 chmod /a 700",
+        ],
+    },
+    Course {
+        act: Act::MakeDirectory,
+        before: "1 chown / - 5
+1 chmod / 3777",
+        whole: "1 lstat /
+1 mkdir /a
+1 chown /a 1 5
+1 chmod /a 2700
+1 lstat /a",
+        told: None,
+        refused: &[
+            "1 lstat /",
+            "1 lstat /
+1 mkdir /a",
+            "1 lstat /
+1 mkdir /a
+1 chown /a 1 5",
+        ],
     },
     Course {
         act: Act::MakeFifo,
         before: "",
-        whole: "1 mknod /a fifo
+        whole: "1 lstat /
+1 mknod /a fifo
+1 chown /a 1 2
+1 chmod /a 700
 1 lstat /a",
         told: None,
-        refused: &[""],
+        refused: &[
+            "1 lstat /",
+            "1 lstat /
+1 mknod /a fifo",
+            "1 lstat /
+1 mknod /a fifo
+1 chown /a 1 2",
+        ],
     },
     Course {
         act: Act::MakeFifo,
         before: "1 begin",
-        whole: "1 mknod /a fifo
+        whole: "1 lstat /
+1 mknod /a fifo
+1 chown /a 1 2
+1 chmod /a 700
 1 lstat /a",
         told: None,
-        refused: &["", "1 mknod /a fifo"],
+        refused: &[
+            "",
+            "1 lstat /",
+            "1 lstat /
+1 mknod /a fifo",
+            "1 lstat /
+1 mknod /a fifo
+1 chown /a 1 2",
+            "1 lstat /
+1 mknod /a fifo
+1 chown /a 1 2
+1 chmod /a 700",
+        ],
     },
     Course {
         act: Act::MakeLink,
         before: "",
-        whole: "1 symlink /b /a
+        whole: "1 lstat /
+1 symlink /b /a
+1 chown /a 1 2
 1 lstat /a",
         told: None,
-        refused: &[""],
+        refused: &[
+            "1 lstat /",
+            "1 lstat /
+1 symlink /b /a",
+        ],
     },
     Course {
         act: Act::MakeLink,
         before: "1 begin",
-        whole: "1 symlink /b /a
+        whole: "1 lstat /
+1 symlink /b /a
+1 chown /a 1 2
 1 lstat /a",
         told: None,
-        refused: &["", "1 symlink /b /a"],
+        refused: &[
+            "",
+            "1 lstat /",
+            "1 lstat /
+1 symlink /b /a",
+            "1 lstat /
+1 symlink /b /a
+1 chown /a 1 2",
+        ],
+    },
+    Course {
+        act: Act::MakeLink,
+        before: "1 chown / - 5
+1 chmod / 2755",
+        whole: "1 lstat /
+1 symlink /b /a
+1 chown /a 1 5
+1 lstat /a",
+        told: None,
+        refused: &[
+            "1 lstat /",
+            "1 lstat /
+1 symlink /b /a",
+        ],
     },
     Course {
         act: Act::Move,

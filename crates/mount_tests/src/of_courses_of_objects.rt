@@ -3,7 +3,7 @@ use crate::acts::Act;
 use crate::courses::{Course, check_courses};
 use kernel::Kernel;
 
-static OBJECTS: [Course; 11] = [
+static OBJECTS: [Course; 15] = [
     Course {
         act: Act::Find,
         before: "1 open /a RDWR,CREAT
@@ -123,6 +123,96 @@ static OBJECTS: [Course; 11] = [
             "",
             "1 ftruncate 0 3",
             "1 ftruncate 0 3
+1 lstat /b",
+        ],
+    },
+    Course {
+        act: Act::Update,
+        before: "1 open /a RDWR,CREAT
+1 write 0 first
+1 close 0",
+        whole: "1 lstat /a
+1 truncate /a 3
+1 chown /a 1 2
+1 chmod /a 700
+1 lstat /a",
+        told: None,
+        refused: &[
+            "1 lstat /a",
+            "1 lstat /a
+1 truncate /a 3",
+            "1 lstat /a
+1 truncate /a 3
+1 chown /a 1 2",
+        ],
+    },
+    Course {
+        act: Act::Update,
+        before: "1 open /a RDWR,CREAT
+1 write 0 first
+1 close 0
+1 begin",
+        whole: "1 lstat /a
+1 truncate /a 3
+1 chown /a 1 2
+1 chmod /a 700
+1 lstat /a",
+        told: None,
+        refused: &[
+            "",
+            "1 lstat /a",
+            "1 lstat /a
+1 truncate /a 3",
+            "1 lstat /a
+1 truncate /a 3
+1 chown /a 1 2",
+            "1 lstat /a
+1 truncate /a 3
+1 chown /a 1 2
+1 chmod /a 700",
+        ],
+    },
+    Course {
+        act: Act::UpdateOpen,
+        before: "1 open /a RDWR,CREAT
+1 write 0 first",
+        whole: "1 ftruncate 0 3
+1 fchown 0 1 2
+1 fchmod 0 700
+1 lstat /b
+1 fstat 0",
+        told: None,
+        refused: &[
+            "",
+            "1 ftruncate 0 3",
+            "1 ftruncate 0 3
+1 fchown 0 1 2",
+        ],
+    },
+    Course {
+        act: Act::UpdateOpen,
+        before: "1 open /a RDWR,CREAT
+1 write 0 first
+1 close 0
+1 begin
+1 open /a RDWR",
+        whole: "1 ftruncate 0 3
+1 fchown 0 1 2
+1 fchmod 0 700
+1 lstat /b
+1 fstat 0",
+        told: None,
+        refused: &[
+            "",
+            "1 ftruncate 0 3",
+            "1 ftruncate 0 3
+1 fchown 0 1 2",
+            "1 ftruncate 0 3
+1 fchown 0 1 2
+1 fchmod 0 700",
+            "1 ftruncate 0 3
+1 fchown 0 1 2
+1 fchmod 0 700
 1 lstat /b",
         ],
     },

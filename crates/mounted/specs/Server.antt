@@ -6,6 +6,7 @@ use Rattle.fuse.specs.declared.reply.Reply.{Reply}
 use Rattle.fuse.specs.declared.request.Request.{Request}
 use Rattle.machine.specs.Shown.{Kept, Shown, limit_of, setup_of}
 use Rattle.mount_requests.specs.Seen.{Seen}
+use Rattle.mount_requests.specs.declared.requests.Caller.{Caller}
 use Rattle.mounted.specs.Served.{IsServed}
 use Rattle.mounted.specs.Sound.{IsSound}
 use Rattle.mounted.specs.Steppers.{StaysInView, is_release}
@@ -14,6 +15,11 @@ use Rattle.mounted.specs.Steppers.{StaysInView, is_release}
 pub record Served : Type 0 where
   pub seen : Seen
   pub shown : Shown
+
+-- about which node a request is, and who asks
+abbrev pub caller_of : Request → Caller
+caller_of request =
+    record { node = request.node; owner = record { user = request.uid; group = request.gid } }
 
 -- The history only grows: entries come behind those that there are, and none goes.
 pub record HasGrown (old new : Shown) : Type 0 where
@@ -29,4 +35,5 @@ pub record HasServed (old new : Served) (request : Request) (reply : Option Repl
   pub sound : IsSound new.seen new.shown
   pub in_view : is_release request.operation ≡ false
       → StaysInView old.seen request.node old.shown.log.entries new.shown.log.entries
-  pub served : IsServed old.seen new.seen request.node request.operation old.shown new.shown reply
+  pub served : IsServed old.seen new.seen (caller_of request) request.operation old.shown new.shown
+      reply

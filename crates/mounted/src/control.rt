@@ -298,7 +298,7 @@ impl<K: Machine> Serving<K> {
                 self.tables.attributes.hear_changes(&changes);
                 attr(&self.tables, view)
             }
-            Operation::Open { flags: _ } => Reply::Opened(Opened {
+            Operation::Open { flags: _, how: _ } => Reply::Opened(Opened {
                 handle: 0,
                 flags: OPENED_DIRECT,
             }),

@@ -7,17 +7,17 @@ ghost use Rattle.fuse.specs.Operations.{is_answered};
 ghost use Rattle.mount_requests.specs.Seen.{IsUnknown};
 ghost use Rattle.mounted.specs.First.{IsFirst};
 ghost use Rattle.mounted.specs.Served.{IsServed};
-ghost use Rattle.mounted.specs.Server.{HasGrown};
+ghost use Rattle.mounted.specs.Server.{HasGrown, caller_of};
 ghost use Rattle.mounted.specs.Sound.{IsSound};
 ghost use Rattle.mounted.specs.Steppers.{StaysInView, is_release};
 
 use crate::serving::Serving;
 use fuse::{Reply, Request};
 use heap::Heap;
-use ids::{Limits, Priority};
+use ids::{Limits, Owner, Priority};
 use machine::Machine;
 use mount_requests::{Caller, Tables};
-use mount_tables::{Owner, first_process};
+use mount_tables::first_process;
 use std::alloc::AllocError;
 use std::marker::Model;
 
@@ -114,7 +114,7 @@ impl<K: Machine> Server<K> {
         ensures in_view { is_release request.operation ≡ false
             → StaysInView self.old.seen request.node
             self.old.shown.log.entries self.new.shown.log.entries }
-        ensures served { IsServed self.old.seen self.new.seen request.node request.operation
+        ensures served { IsServed self.old.seen self.new.seen (caller_of request) request.operation
             self.old.shown self.new.shown result }
     {
         let Request {
@@ -127,7 +127,10 @@ impl<K: Machine> Server<K> {
         } = request;
         let caller = Caller {
             node,
-            owner: Owner { uid, gid },
+            owner: Owner {
+                user: uid,
+                group: gid,
+            },
         };
         self.serving.serve(caller, operation)
     }

@@ -14,6 +14,8 @@ pub(crate) enum Verb {
     Pfill,
     Truncate,
     Mknod,
+    Chmod,
+    Chown,
     OnFd(FdVerb),
     OnPath(PathVerb),
     OnPaths(PathsVerb),
@@ -31,6 +33,8 @@ pub(crate) enum FdVerb {
     Lseek,
     Ftruncate,
     Dup2,
+    Fchmod,
+    Fchown,
 }
 
 // The word of an operation on a path.
@@ -65,7 +69,7 @@ pub(crate) enum BareVerb {
 }
 
 // The words, and what each names.
-static VERBS: [(&str, Verb); 31] = [
+static VERBS: [(&str, Verb); 35] = [
     ("open", Verb::Open),
     ("close", Verb::OnFd(FdVerb::Close)),
     ("fstat", Verb::OnFd(FdVerb::Fstat)),
@@ -81,6 +85,10 @@ static VERBS: [(&str, Verb); 31] = [
     ("truncate", Verb::Truncate),
     ("dup2", Verb::OnFd(FdVerb::Dup2)),
     ("mknod", Verb::Mknod),
+    ("chmod", Verb::Chmod),
+    ("chown", Verb::Chown),
+    ("fchmod", Verb::OnFd(FdVerb::Fchmod)),
+    ("fchown", Verb::OnFd(FdVerb::Fchown)),
     ("stat", Verb::OnPath(PathVerb::Stat)),
     ("unlink", Verb::OnPath(PathVerb::Unlink)),
     ("mkdir", Verb::OnPath(PathVerb::Mkdir)),

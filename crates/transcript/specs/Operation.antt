@@ -10,6 +10,7 @@ use Rattle.ids.specs.declared.call.Call.TheVariants as call
 use Rattle.ids.specs.declared.call.Op.{Op}
 use Rattle.ids.specs.declared.call.Op.TheVariants as op
 use Rattle.transcript.specs.Flags.{begin_flags_text, flags_text}
+use Rattle.transcript.specs.Rights.{new_owner_text, octal}
 use Rattle.transcript.specs.Text.{text_of}
 
 abbrev pub whence_text : Whence → List ℕ
@@ -65,6 +66,12 @@ call_text (call.Readlink path) = path_text (codes "readlink ") path
 call_text (call.Lstat path) = path_text (codes "lstat ") path
 call_text (call.Mknod path special) =
     codes "mknod " ++ text_of path ++ codes " " ++ special_text special
+call_text (call.Chmod path permissions) =
+    codes "chmod " ++ text_of path ++ codes " " ++ octal permissions
+call_text (call.Chown path owner) = codes "chown " ++ text_of path ++ new_owner_text owner
+call_text (call.Fchmod fd permissions) =
+    codes "fchmod " ++ decimal fd ++ codes " " ++ octal permissions
+call_text (call.Fchown fd owner) = codes "fchown " ++ decimal fd ++ new_owner_text owner
 call_text (call.Dup fd) = number_text (codes "dup ") fd
 call_text (call.Dup2 old new) = numbers_text (codes "dup2 ") old new
 call_text call.Pipe = codes "pipe"

@@ -6,6 +6,8 @@ mod beside_links;
 #[cfg(test)]
 mod beside_offsets;
 #[cfg(test)]
+mod beside_rights;
+#[cfg(test)]
 mod beside_truncates;
 #[cfg(test)]
 mod bytes_at_offsets;
@@ -22,6 +24,8 @@ mod errors_at_offsets;
 #[cfg(test)]
 mod errors_of_links;
 #[cfg(test)]
+mod errors_of_rights;
+#[cfg(test)]
 mod errors_of_truncates;
 #[cfg(test)]
 mod fifos;
@@ -37,6 +41,8 @@ mod freeing;
 mod given_up;
 #[cfg(test)]
 mod growths;
+#[cfg(test)]
+mod kept_rights;
 #[cfg(test)]
 mod large_tests;
 #[cfg(test)]
@@ -81,6 +87,8 @@ mod refused_offsets;
 mod refused_pipes;
 #[cfg(test)]
 mod renames;
+#[cfg(test)]
+mod rights;
 #[cfg(test)]
 mod row;
 #[cfg(test)]

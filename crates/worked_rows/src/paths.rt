@@ -2,7 +2,7 @@
 // that a path may have.
 use crate::row::kernel_of;
 use heap::Heap;
-use ids::{Bytes, Call, Errno, Op, Pid, Reply, Special};
+use ids::{Bytes, Call, Errno, Kind, NewOwner, Op, Pid, Reply, Rights, Special};
 use kernel::Kernel;
 use machine::Machine;
 use std::alloc::AllocError;
@@ -37,6 +37,21 @@ fn errors_of<K: Machine>(kernel: &mut K, path: &Bytes) -> Result<[Option<Errno>;
     let truncate = error_of(kernel, Call::Truncate(path.try_clone()?, u32::MAX));
     let readlink = error_of(kernel, Call::Readlink(path.try_clone()?));
     Ok([stat, lstat, truncate, readlink])
+}
+
+// The errors of a chmod and a chown of this path.
+fn errors_of_rights<K: Machine>(
+    kernel: &mut K,
+    path: &Bytes,
+) -> Result<[Option<Errno>; 2], AllocError> {
+    let permissions = Rights::first(Some(Kind::File)).permissions;
+    let owner = NewOwner {
+        user: Some(1),
+        group: None,
+    };
+    let chmod = error_of(kernel, Call::Chmod(path.try_clone()?, permissions));
+    let chown = error_of(kernel, Call::Chown(path.try_clone()?, owner));
+    Ok([chmod, chown])
 }
 
 // The errors of a symlink and a mknod of this path, which gives nothing yet.
@@ -80,6 +95,7 @@ fn assert_errors<K: Machine>(rt: &impl Abort, heap: Heap, kernel: &mut K) -> Res
     for (names, errno) in &LONG {
         let path = long_path(heap, names)?;
         assert_eq!(rt; errors_of(kernel, &path)?, [Some(*errno); 4]);
+        assert_eq!(rt; errors_of_rights(kernel, &path)?, [Some(*errno); 2]);
         assert_eq!(rt; errors_of_new(heap, kernel, &path)?, [Some(*errno); 2]);
     }
     for (path, errno) in &FORMS {
@@ -90,6 +106,7 @@ fn assert_errors<K: Machine>(rt: &impl Abort, heap: Heap, kernel: &mut K) -> Res
             errors_of(kernel, &path)?,
             [*errno, *errno, Some(cut), Some(read)]
         );
+        assert_eq!(rt; errors_of_rights(kernel, &path)?, [*errno; 2]);
     }
     Ok(())
 }

@@ -65,6 +65,18 @@ returns-in-Lstat g c = Prints-as c.put_path-in-Lstat.ensures (search rules)
 pub returns-in-Mknod : goal.returns-in-Mknod
 returns-in-Mknod g c = Prints-as c.put_mknod.ensures (search rules)
 
+pub returns-in-Chmod : goal.returns-in-Chmod
+returns-in-Chmod g c = Prints-as c.put_chmod.ensures (search rules)
+
+pub returns-in-Chown : goal.returns-in-Chown
+returns-in-Chown g c = Prints-as c.put_chown.ensures (search rules)
+
+pub returns-in-Fchmod : goal.returns-in-Fchmod
+returns-in-Fchmod g c = Prints-as c.put_fchmod.ensures (search rules)
+
+pub returns-in-Fchown : goal.returns-in-Fchown
+returns-in-Fchown g c = Prints-as c.put_fchown.ensures (search rules)
+
 pub returns-in-Dup : goal.returns-in-Dup
 returns-in-Dup g c = Prints-as c.put_number-in-Dup.ensures (search rules)
 

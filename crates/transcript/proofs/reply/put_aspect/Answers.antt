@@ -31,3 +31,6 @@ returns-in-Back g c = Prints-as c.put_word-in-Back.ensures (search rules)
 
 pub returns-in-Target : goal.returns-in-Target
 returns-in-Target g c = Prints-as c.put_word-in-Target.ensures (search rules)
+
+pub returns-in-Rights : goal.returns-in-Rights
+returns-in-Rights g c = Prints-as c.put_word-in-Rights.ensures (search rules)

@@ -1,5 +1,4 @@
-use Rattle.std.proofs.Common.{ap, refl}
-use Rattle.course.specs.declared.names.Twice.{Twice}
+use Rattle.std.proofs.Common.{refl}
 use Rattle.mount_requests.specs.Seen.{seen}
 use Rattle.mount_requests.proofs.Answering.{failed, refused, told, unplanned}
 use Rattle.mount_requests.proofs.Knowing.{born}
@@ -9,25 +8,15 @@ pub returns-in_err-path-clause-answers : goal.returns-in_err-path-clause-answers
 returns-in_err-path-clause-answers g c =
     unplanned _ c.from_residual.ensures.1 c.in_err-path.ensures refl refl
 
-pub returns-in_err-first-clause-answers : goal.returns-in_err-first-clause-answers
-returns-in_err-first-clause-answers g c =
-    refused _ c.from_residual-in_err-first.ensures.1 refl refl
-
 pub returns-in_err-spot-clause-answers : goal.returns-in_err-spot-clause-answers
 returns-in_err-spot-clause-answers g c =
     refused _ c.from_residual-in_err-spot.ensures.1 refl c.in_err-spot.ensures.seen
 
 pub returns-in_err-stat-clause-answers : goal.returns-in_err-stat-clause-answers
 returns-in_err-stat-clause-answers g c =
-    let first = ap (λ (p : Twice). p.first) c.in_ok-first.ensures in
-    let second = ap (λ (p : Twice). p.second) c.in_ok-first.ensures in
-    let h = rw (first, second) at c.in_err-stat.ensures.ran in
-    failed _ c.in_ok-path.ensures c.from_residual-in_err-stat.ensures.1 h c.in_ok-spot.ensures.seen
+    failed _ c.in_ok-path.ensures c.from_residual-in_err-stat.ensures.1 c.in_err-stat.ensures.ran c.in_ok-spot.ensures.seen
 
 pub returns-clause-answers : goal.returns-clause-answers
 returns-clause-answers g c =
-    let first = ap (λ (p : Twice). p.first) c.in_ok-first.ensures in
-    let second = ap (λ (p : Twice). p.second) c.in_ok-first.ensures in
-    let h = rw (first, second) at c.in_ok-stat.ensures.ran in
-    told c.in_ok-path.ensures h
+    told c.in_ok-path.ensures c.in_ok-stat.ensures.ran
     (born (seen c.args.self.now) (seen c.spot_for.new.self) (seen c.entry_made-entry.new.self) c.args.caller.node c.args.name.now _ _ _ c.in_ok-spot.ensures.seen c.in_ok-spot.ensures.entry c.entry_made-entry.ensures.entry c.entry_made-entry.ensures.seen)

@@ -10,9 +10,11 @@ returns-in_err-writing-clause-answers g c =
 pub returns-in_err-size-clause-answers : goal.returns-in_err-size-clause-answers
 returns-in_err-size-clause-answers g c =
     let h = rw c.pid.ensures at c.in_ok-writing.ensures in
-    failed _ h c.from_residual-in_err-size.ensures.1 c.in_err-size.ensures.ran refl
+    let k = rw c.drops.ensures at c.in_err-size.ensures.ran in
+    failed _ h c.from_residual-in_err-size.ensures.1 k refl
 
 pub returns-clause-answers : goal.returns-clause-answers
 returns-clause-answers g c =
     let h = rw c.pid.ensures at c.in_ok-writing.ensures in
-    told h c.in_ok-size.ensures.ran (refl, refl)
+    let k = rw c.drops.ensures at c.in_ok-size.ensures.ran in
+    told h k (refl, refl)
