@@ -1,0 +1,180 @@
+"""Tries edits that the prover has to refuse, as many of a crate's at once as stand in different functions.
+
+An edit changes the body of a function, whose callers read its contract alone. So edits of different functions do not touch each
+other: one check of all of those functions tells of each by itself whether it is proved. What such a check does not refuse for its
+meaning is tried alone, as the gate does: an edit that stands outside of a function, that is still proved, that the prover cannot
+read, or that is refused only for a name that it takes away.
+"""
+import contextlib
+import os
+import re
+import shutil
+import sys
+from typing import NamedTuple
+
+sys.dont_write_bytecode = True
+from functions import functions_of
+
+# How many edits one check tries at most.
+MOST = 24
+TOLD = re.compile(r"^fn (\S+): (proved|not proved)\b")
+ERROR = re.compile(r"^(?:note: )?(?:\./)?((?:src|proofs)/\S+?):(\d+):\d+: ")
+# A proof file that names what an edit took away says nothing of a contract.
+NAMES = re.compile(r"has no field|is not in scope|has no `|was not admitted")
+
+
+class Place(NamedTuple):
+    """A function that an edit changes: the names by which the prover may tell of it, where the type of a method stands in its own file; and its lines."""
+
+    symbols: tuple
+    file: str
+    first: int
+    last: int
+
+    def name(self):
+        return self.symbols[0].split("::")[-1]
+
+    def told(self, said):
+        """Returns what a check said of it: its name, and 'proved' or 'not proved'; two empty texts where that is not known. A method that stands in
+        another file than its type is known by the end of its name."""
+        ends = tuple("::" + "::".join(it.split("::")[-2:]) for it in self.symbols)
+        found = [it for it in said if it[0] in self.symbols] or [it for it in said if it[0].endswith(ends)]
+        return found[0] if len(found) == 1 else ("", "")
+
+    def is_at(self, symbol, line):
+        """Whether a line of an error tells of it: at its own lines, or in the folder of its proof."""
+        file, number = ERROR.match(line).groups()
+        folder = "/".join(["proofs", *symbol.split("::")[1:], ""])
+        return file.startswith(folder) or file == self.file and self.first <= int(number) <= self.last
+
+
+class Edit(NamedTuple):
+    """An edit: its file, the texts of the files that it changes, and where it changes functions; no places where it changes something else, too."""
+
+    path: str
+    texts: dict
+    places: frozenset
+
+    def name(self):
+        return os.path.basename(self.path)
+
+    def is_refused(self, lines):
+        """Whether a check that said this refuses it for its meaning."""
+        said = [found.groups() for line in lines if (found := TOLD.match(line))]
+        for place in self.places:
+            symbol, word = place.told(said)
+            if word == "not proved":
+                errors = [line for line in lines if ERROR.match(line) and place.is_at(symbol, line)]
+                if not errors or not all(map(NAMES.search, errors)):
+                    return True
+        return False
+
+
+def places_in(crate, file, new):
+    """Returns the functions that an edit of a file changes, or none where it changes something else, too."""
+    with open(f"{crate.folder}/{file}", encoding="utf-8") as it:
+        old = it.read()
+    rows = [old.split("\n"), new.split("\n")]
+    if not file.endswith(".rt") or len(rows[0]) != len(rows[1]):
+        return set()
+    functions, found = functions_of(old), set()
+    for number, (was, now) in enumerate(zip(*rows), 1):
+        if was != now:
+            here = [it for it in functions if it.first <= number <= it.last]
+            if not here:
+                return set()
+            found.add(Place(here[0].symbols(crate.name, file), file, here[0].first, here[0].last))
+    return found
+
+
+def read(rt, crate, path):
+    """Reads an edit. One that cannot be applied has no places: tried alone, it says why."""
+    texts, _ = rt.read_edit(path, crate.folder)
+    parts = [places_in(crate, file, text) for file, text in (texts or {}).items()]
+    return Edit(path, texts or {}, frozenset().union(*parts) if all(parts) else frozenset())
+
+
+def rounds_of(edits):
+    """Puts edits into rounds in which no two change the same function, and returns these."""
+    rounds = []
+    for edit in edits:
+        fits = (it for it in rounds if len(it) < MOST and not any(edit.places & other.places for other in it))
+        into = next(fits, None)
+        if into is None:
+            rounds.append(into := [])
+        into.append(edit)
+    return rounds
+
+
+def joined(crate, edits):
+    """Returns the texts of the files that these edits change, with all their changes. Each changes lines of its own, one for one."""
+    texts = {}
+    for edit in edits:
+        for file, text in edit.texts.items():
+            with open(f"{crate.folder}/{file}", encoding="utf-8") as it:
+                old = it.read().split("\n")
+            rows = texts.setdefault(file, list(old))
+            for number, (was, now) in enumerate(zip(old, text.split("\n"))):
+                if was != now:
+                    rows[number] = now
+    return {file: "\n".join(rows) for file, rows in texts.items()}
+
+
+class Refusals:
+    """The tries of one crate's edits, over what a check of the crate as it stands proved. `crate` is one of the kit's, whose libraries
+    below are built."""
+
+    def __init__(self, rt, crate, paths):
+        self.rt, self.crate, self.room, self.files = rt, crate, None, {}
+        edits = [read(rt, crate, it) for it in paths]
+        self.alone = [it for it in edits if not it.places]
+        self.rounds = rounds_of([it for it in edits if it.places])
+
+    def begin(self):
+        """Proves the crate, begun with what checks on this machine kept of it, and returns whether it is proved."""
+        self.room = self.rt.seeded(self.crate, ["--jobs", "1"], self.rt.work_for(self.crate))
+        self.files = self.rt.listing(f"{self.room}/seed") if self.room else {}
+        return self.room is not None
+
+    @contextlib.contextmanager
+    def over(self, name):
+        """Gives a copy of what was proved, for one check."""
+        folder = f"{self.room}/{name}"
+        self.rt.linked(f"{self.room}/seed", folder)
+        try:
+            yield folder
+        finally:
+            shutil.rmtree(folder, ignore_errors=True)
+
+    def check(self, name, texts, places):
+        """Checks these functions with these texts, and returns the lines of what was said."""
+        only = [word for it in sorted({it.name() for it in places}) for word in ("--only", it)]
+        with self.over(name) as folder:
+            return self.rt.checked(self.crate, texts, ["--jobs", "1", *only], folder).stdout.split("\n")
+
+    def unrefused(self, number):
+        """Tries the edits of a round in one check, and returns those that it does not refuse for their meaning."""
+        return self.left(f"round-{number}", self.rounds[number])
+
+    def left(self, name, edits):
+        """Returns those of these edits that one check does not refuse. Where it tells of no function, one of them cannot be read, so each half is tried."""
+        lines = self.check(name, joined(self.crate, edits), {place for it in edits for place in it.places})
+        if len(edits) > 1 and not any(map(TOLD.match, lines)):
+            half = len(edits) // 2
+            return self.left(name, edits[:half]) + self.left(name, edits[half:])
+        return [it for it in edits if not it.is_refused(lines)]
+
+    def try_alone(self, edit):
+        """Tries one edit as the gate does, and returns whether it is refused, and what to say."""
+        with self.over(f"alone-{edit.name()}") as folder:
+            kind, text = self.rt.must_fail(self.crate, edit.path, ["--jobs", "1"], folder)
+        return kind in (self.rt.REFUSED, self.rt.AT_LIMIT), text
+
+    def end(self):
+        """Checks the functions that were changed as they stand, and returns whether all are proved, over what nothing has touched meanwhile."""
+        places = {place for edits in self.rounds for it in edits for place in it.places}
+        lines = self.check("as-they-stand", {}, places) if places else []
+        said = [found.groups() for line in lines if (found := TOLD.match(line))]
+        is_same = self.rt.listing(f"{self.room}/seed") == self.files
+        shutil.rmtree(self.room, ignore_errors=True)
+        return is_same and all(it.told(said)[1] == "proved" for it in places)
