@@ -31,10 +31,7 @@ module _ (view : ℕ) (live : view ≢ 0) where
     abbrev whole : Known
     whole = aborted k view
 
-    -- what a transaction notes, behind an abort of another one and before it
-    note_later : (q : ℕ) → put inode (behind (notes_of event now) (k.noted at inode)) (k.noted at) q ≡ put inode (behind (notes_of event now) (whole.noted at inode)) (whole.noted at) q
-    note_later q = ap (λ (g : ℕ → Notes). put inode (behind (notes_of event now) (g inode)) g q) (sym (put_other view none k.noted at away))
-
+    -- what a transaction notes, where another one is aborted before it or behind it
     note_swap : (v q : ℕ) → (aborted (view_note k at inode event now) view).noted v q ≡ (view_note whole at inode event now).noted v q
     note_swap v q =
         ap (λ (g : ℕ → Notes). g q) (put_swap view at none (put inode (behind (notes_of event now) (k.noted at inode)) (k.noted at)) k.noted (λ same. away (sym same)) v)

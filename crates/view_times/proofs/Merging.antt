@@ -1,5 +1,5 @@
 -- What a view has noted becomes everybody's, one inode after the other.
-use Rattle.std.proofs.Common.{◌≡◌, ℕ, ◌==◌, Bool, true, false, cond, List, [], ◌∷◌, Option, Some, None, nat_eq, nat_cmp, refl, sym, ap, ap₂, ◌∙◌}
+use Rattle.std.proofs.Common.{◌≡◌, ℕ, ◌==◌, Bool, true, false, cond, List, [], ◌∷◌, Option, Some, None, nat_eq, nat_cmp, refl, sym, ap, ◌∙◌, eqb-true}
 use Rattle.std.specs.Cmp.{nat_eq_equiv}
 use Rattle.std.specs.List.{IsDistinct}
 use Rattle.std.specs.Map.{keys_of, lookup}
@@ -8,7 +8,7 @@ use Rattle.std.proofs.lemmas.Map.Entries.{none_past_head}
 use Rattle.std.proofs.lemmas.Map.Keys.{IsDistinct-tail}
 use Rattle.model.specs.FiniteMap.{FinMap, get}
 use Rattle.view_times.specs.Kept.{merged_if, notes_by}
-use Rattle.view_times.specs.Noted.{nothing}
+use Rattle.view_times.specs.Noted.{merged}
 use Rattle.view_times.specs.declared.noted.Notes.{Notes}
 use Rattle.view_times.specs.declared.times.Times.{Times}
 use Rattle.view_times.proofs.Written.{turned}
@@ -19,6 +19,28 @@ Everybody = FinMap nat_cmp Times
 pub merged_nothing : (times : Option Times) → merged_if nothing times ≡ times
 merged_nothing None = refl
 merged_nothing (Some times) = refl
+
+-- ---- one inode
+
+-- what is noted of an inode with a place, as one row of everybody's
+pub merged_there : (everybody : Everybody) (inode : ℕ) (notes : Notes) (times now : Times) → get everybody inode ≡ Some times → now ≡ merged notes times → (q : ℕ) → cond (inode == q) (Some now) (get everybody q) ≡ cond (inode == q) (merged_if notes (get everybody q)) (get everybody q)
+merged_there everybody inode notes times now there is q = by (inode == q) refl
+  where
+    by : (b : Bool) → (inode == q) ≡ b → cond b (Some now) (get everybody q) ≡ cond b (merged_if notes (get everybody q)) (get everybody q)
+    by true same = ap Some is ∙ ap (merged_if notes) (sym there ∙ ap (get everybody) (eqb-true inode q same))
+    by false differ = refl
+
+-- and of one that has none
+pub merged_nowhere : (everybody : Everybody) (inode : ℕ) (notes : Notes) → get everybody inode ≡ None → (q : ℕ) → get everybody q ≡ cond (inode == q) (merged_if notes (get everybody q)) (get everybody q)
+merged_nowhere everybody inode notes nowhere q = by (inode == q) refl
+  where
+    by : (b : Bool) → (inode == q) ≡ b → get everybody q ≡ cond b (merged_if notes (get everybody q)) (get everybody q)
+    by true same =
+        let none : get everybody q ≡ None = ap (get everybody) (sym (eqb-true inode q same)) ∙ nowhere in
+        none ∙ sym (ap (merged_if notes) none)
+    by false differ = refl
+
+-- ---- all inodes of a view
 
 -- what is left becomes everybody's, and then all has
 pub record Merges (start now : Everybody) (all rest : List (ℕ × Notes)) : Type 0 where

@@ -1,5 +1,5 @@
 -- What views have noted, when the table of one is changed, or those of all.
-use Rattle.std.proofs.Common.{◌≡◌, ◌≢◌, ℕ, ◌+◌, ◌≤◌, ◌<◌, ◌==◌, ◌&&◌, Bool, true, false, cond, List, [], ◌∷◌, Option, Some, None, nat_eq, nat_cmp, refl, sym, ap, subst, ◌∙◌, arith, eq-eqb, eqb-true, min}
+use Rattle.std.proofs.Common.{◌≡◌, ◌≢◌, ℕ, ◌+◌, ◌≤◌, ◌<◌, ◌==◌, ◌&&◌, Bool, true, false, cond, List, [], ◌∷◌, Option, Some, None, nat_eq, nat_cmp, refl, sym, ap, subst, ◌∙◌, arith, eq-eqb, eqb-true}
 use Rattle.std.specs.Map.{lookup}
 use Rattle.std.specs.Map.Calls.{RetainsPairs}
 use Rattle.std.proofs.lemmas.Bool.{cond-false, cond-true}
@@ -50,9 +50,6 @@ module _ (old new : Tables) (view : ℕ) (was now : Option Table) (there : get o
 
 -- one inode more, or again
 module _ (old new : Tables) (view inode : ℕ) (notes : Notes) (table now : Table) (there : get old view ≡ Some table) (is : (v : ℕ) → get new v ≡ cond (view == v) (Some now) (get old v)) (rows : now.rows ≡ insert table.rows inode (behind notes (notes_by (get table.rows inode)))) where
-  noted : Notes
-  noted = behind notes (notes_in old view inode)
-
   pub one_noted : (v q : ℕ) → note_at new v q ≡ cond (view == v && inode == q) (Some (behind notes (notes_in old view inode))) (note_at old v q)
   one_noted v q =
       each old new view (Some table) (Some now) there is
@@ -93,14 +90,15 @@ IsEach R (Some was) None = ⊥
 IsEach R None (Some now) = ⊥
 IsEach R None None = Unit {0}
 
-module _ {F : Type 0} (T : F → ℕ → Table → Bool → Table → F → Type 0) (R : Table → Table → Type 0) (told : (f : F) (k : ℕ) (was : Table) (b : Bool) (now : Table) (f' : F) → T f k was b now f' → (b ≡ true) × R was now × (f' ≡ f)) where
-  pub all_kept : (f : F) (es kept : List (ℕ × Table)) → RetainsPairs T f es kept → (q : ℕ) → IsEach R (lookup (nat_eq q) es) (lookup (nat_eq q) kept)
-  all_kept f [] kept retains q = subst (λ (es : List (ℕ × Table)). IsEach R None (lookup (nat_eq q) es)) (sym retains) tt
-  all_kept f (e ∷ es) kept retains q =
-      let says = told f e.0 e.1 retains.0 retains.1 retains.2 retains.4 in
-      let rest : IsEach R (lookup (nat_eq q) es) (lookup (nat_eq q) retains.3) = all_kept retains.2 es retains.3 retains.5 q in
+-- a closure that keeps each table, changes it as R says, and stays as it was
+module _ {F : Type 0} (T : F → ℕ → Table → Bool → Table → F → Type 0) (R : Table → Table → Type 0) (f : F) (told : (k : ℕ) (was : Table) (b : Bool) (now : Table) (f' : F) → T f k was b now f' → (b ≡ true) × R was now × (f' ≡ f)) where
+  pub all_kept : (es kept : List (ℕ × Table)) → RetainsPairs T f es kept → (q : ℕ) → IsEach R (lookup (nat_eq q) es) (lookup (nat_eq q) kept)
+  all_kept [] kept retains q = subst (λ (fs : List (ℕ × Table)). IsEach R None (lookup (nat_eq q) fs)) (sym retains) tt
+  all_kept (e ∷ es) kept retains q =
+      let says = told e.0 e.1 retains.0 retains.1 retains.2 retains.4 in
+      let rest : IsEach R (lookup (nat_eq q) es) (lookup (nat_eq q) retains.3) = all_kept es retains.3 (subst (λ (g : F). RetainsPairs T g es retains.3) says.2 retains.5) q in
       let whole : kept ≡ (e.0, retains.1) ∷ retains.3 = retains.6 ∙ cond-true retains.0 ((e.0, retains.1) ∷ retains.3) retains.3 says.0 in
-      subst (λ (es' : List (ℕ × Table)). IsEach R (lookup (nat_eq q) (e ∷ es)) (lookup (nat_eq q) es')) (sym whole)
+      subst (λ (fs : List (ℕ × Table)). IsEach R (lookup (nat_eq q) (e ∷ es)) (lookup (nat_eq q) fs)) (sym whole)
       (by (nat_eq q e.0) e.1 retains.1 (lookup (nat_eq q) es) (lookup (nat_eq q) retains.3) says.1 rest)
     where
       by : (b : Bool) (was now : Table) (o p : Option Table) → R was now → IsEach R o p → IsEach R (cond b (Some was) o) (cond b (Some now) p)

@@ -58,7 +58,7 @@ impl ByNumber<Times> {
             ≡ merged_if (notes_by (map.get noted.now.rows q)) (map.get self.old.rows q) }
         ensures room { self.new.room ≡ self.old.room }
     {
-        for (inode, notes) in noted.rows.iter() {
+        for (inode, notes) in &noted.rows {
             self.merge(*inode, *notes);
         }
     }
