@@ -18,5 +18,5 @@ mod views;
 
 pub use event::Event;
 pub use laws::{calls_tell_times, notes_stay_in_their_view};
-pub use times::Times;
+pub use times::{Times, later};
 pub use view_times::{PLAIN, ViewTimes};

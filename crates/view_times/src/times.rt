@@ -22,8 +22,8 @@ const START: Time = Time {
 };
 
 impl Times {
-    // Those of an inode of which nothing is known.
-    pub(crate) fn first() -> Times
+    /// Those of an inode of which nothing is known: the beginning of 1970.
+    pub fn first() -> Times
         ensures { result ≡ first_times }
     {
         Times {
@@ -42,8 +42,8 @@ fn is_later(first: Time, second: Time) -> bool
         || first.seconds == second.seconds && first.nanoseconds > second.nanoseconds
 }
 
-// The later one of two times.
-pub(crate) fn later(first: Time, second: Time) -> Time
+/// The later one of two times.
+pub fn later(first: Time, second: Time) -> Time
     ensures { result ≡ later first second }
 {
     if is_later(first, second) {
