@@ -6,3 +6,4 @@ mod Telling
 mod Reaching
 mod NoAborts
 pub mod Keeping
+pub mod Apart

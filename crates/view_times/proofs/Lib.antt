@@ -1,6 +1,6 @@
 mod Written
 mod Puts
-mod Calls
+pub mod Calls
 mod Apart
 mod Merging
 mod Tables

@@ -12,11 +12,15 @@ pub returns-in_err-removed-clause-answers : goal.returns-in_err-removed-clause-a
 returns-in_err-removed-clause-answers g c =
     refused _ c.from_residual-in_err-removed.ensures.1 refl refl
 
+pub returns-in_err-reserve_events-clause-answers : goal.returns-in_err-reserve_events-clause-answers
+returns-in_err-reserve_events-clause-answers g c =
+    refused _ c.from_residual-in_err-reserve_events.ensures.1 refl c.in_err-reserve_events.ensures.seen
+
 pub returns-in_err-unlink-clause-answers : goal.returns-in_err-unlink-clause-answers
 returns-in_err-unlink-clause-answers g c =
-    failed _ c.in_ok-path.ensures c.from_residual-in_err-unlink.ensures.1 c.in_err-unlink.ensures.ran refl
+    failed _ c.in_ok-path.ensures c.from_residual-in_err-unlink.ensures.1 c.in_err-unlink.ensures.ran c.in_ok-reserve_events.ensures.seen
 
 pub returns-clause-answers : goal.returns-clause-answers
 returns-clause-answers g c =
     told c.in_ok-path.ensures c.in_ok-unlink.ensures.ran
-    (tt, taken_away (seen c.args.self.now) (seen c.note_removed.new.self) c.args.node c.args.name.now _ c.in_ok-removed.ensures c.note_removed.ensures)
+    (tt, taken_away (seen c.args.self.now) (seen c.reserve_events.new.self) (seen c.note_removed.new.self) c.args.node c.args.name.now _ c.in_ok-reserve_events.ensures.seen c.in_ok-removed.ensures c.note_removed.ensures)
