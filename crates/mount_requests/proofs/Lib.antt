@@ -1,5 +1,6 @@
 mod Answering
 mod Knowing
+mod Noting
 mod Listing
 mod Ending
 mod Telling
