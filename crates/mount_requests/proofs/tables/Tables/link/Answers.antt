@@ -1,9 +1,10 @@
-use Rattle.std.proofs.Common.{ap, refl, ◌∙◌}
+use Rattle.std.proofs.Common.{arith, ap, refl, ◌∙◌}
 use Rattle.mount_requests.specs.Found.{inode_of}
 use Rattle.mount_requests.specs.Seen.{Seen, seen}
 use Rattle.mount_requests.specs.Times.{of_linking, with_events}
 use Rattle.mount_requests.proofs.Answering.{failed, refused, told, unplanned}
 use Rattle.mount_requests.proofs.Knowing.{linked}
+use Rattle.mount_requests.proofs.Noting.{room_for}
 use Rattle.mount_requests.proofs.tables.Tables.link.Goals as goal
 
 pub returns-in_err-from-clause-answers : goal.returns-in_err-from-clause-answers
@@ -27,3 +28,7 @@ returns-clause-answers g c =
     let noted = c.note_linked.ensures.seen ∙ ap (λ (v : Seen). with_events c.args.parent (of_linking _ (inode_of v c.args.parent)) v) (c.in_ok-spot.ensures.seen ∙ c.in_ok-reserve_events.ensures.seen) in
     told c.in_ok-from.ensures.plan c.in_ok-stat.ensures.ran
     (linked (seen c.args.self.now) (seen c.note_linked.new.self) (seen c.entry-entry.new.self) c.args.parent c.args.name.now _ _ _ _ noted c.in_ok-spot.ensures.entry c.entry-entry.ensures.entry c.entry-entry.ensures.seen)
+
+pub note_linked-requires : goal.note_linked-requires
+note_linked-requires g c =
+    omega (arith, room_for (seen c.args.self.now) (seen c.spot_for.new.self) c.reserve_events.new.self.times c.spot_for.new.self.times c.args.parent c.args.parent (c.in_ok-spot.ensures.seen ∙ c.in_ok-reserve_events.ensures.seen) c.in_ok-spot.ensures.times refl c.in_ok-reserve_events.ensures.events)
