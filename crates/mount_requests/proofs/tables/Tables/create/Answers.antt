@@ -38,4 +38,4 @@ returns-clause-answers g c =
 
 pub note_opened-requires-clause-events : goal.note_opened-requires-clause-events
 note_opened-requires-clause-events g c =
-    omega (arith, (let h = room_for (seen c.reserve_file.new.self) (seen c.spot_for.new.self) c.reserve_events.new.self.times c.spot_for.new.self.times c.args.caller.node c.args.caller.node (c.in_ok-spot.ensures.seen ∙ c.in_ok-reserve_events.ensures.seen) c.in_ok-spot.ensures.times refl c.in_ok-reserve_events.ensures.events in h))
+    omega (arith, room_for (seen c.reserve_file.new.self) (seen c.spot_for.new.self) c.reserve_events.new.self.times c.spot_for.new.self.times c.args.caller.node c.args.caller.node (c.in_ok-spot.ensures.seen ∙ c.in_ok-reserve_events.ensures.seen) c.in_ok-spot.ensures.times refl c.in_ok-reserve_events.ensures.events)
