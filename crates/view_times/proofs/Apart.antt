@@ -105,38 +105,38 @@ module _ (view : ℕ) (live : view ≢ 0) where
   NoneCommits calls = list_any (is_commit_of view) calls ≡ false
 
   first_none : (call : Call) (calls : List Call) → NoneCommits (call ∷ calls) → (is_commit_of view call ≡ false) × NoneCommits calls
-  first_none call calls none = or_parts (is_commit_of view call) (list_any (is_commit_of view) calls) none
+  first_none call calls uncommitted = or_parts (is_commit_of view call) (list_any (is_commit_of view) calls) uncommitted
+
+  -- one call first, and the others then
+  one_undone : (k : Known) (call : Call) (calls : List Call) → aborted (after_all (after k call) calls) view ≡ after_all (aborted (after k call) view) (without view calls) → is_commit_of view call ≡ false → (b : Bool) → is_noted_in view call ≡ b → aborted (after_all (after k call) calls) view ≡ after_all (aborted k view) (cond (not b) (call ∷ without view calls) (without view calls))
+  one_undone k call calls later commit true noted = later ∙ ap (λ (j : Known). after_all j (without view calls)) (gone k call noted)
+  one_undone k call calls later commit false noted = later ∙ ap (λ (j : Known). after_all j (without view calls)) (commutes k call noted commit)
 
   -- behind an abort all is as it would be without these notes, from a state without what was noted before
   all_undone : (k : Known) (calls : List Call) → NoneCommits calls → aborted (after_all k calls) view ≡ after_all (aborted k view) (without view calls)
-  all_undone k [] none = refl
-  all_undone k (call ∷ calls) none = by (is_noted_in view call) refl
-    where
-      later : aborted (after_all (after k call) calls) view ≡ after_all (aborted (after k call) view) (without view calls)
-      later = all_undone (after k call) calls (first_none call calls none).1
-
-      by : (b : Bool) → is_noted_in view call ≡ b → aborted (after_all (after k call) calls) view ≡ after_all (aborted k view) (cond (not b) (call ∷ without view calls) (without view calls))
-      by true noted = later ∙ ap (λ (j : Known). after_all j (without view calls)) (gone k call noted)
-      by false noted = later ∙ ap (λ (j : Known). after_all j (without view calls)) (commutes k call noted (first_none call calls none).0)
+  all_undone k [] uncommitted = refl
+  all_undone k (call ∷ calls) uncommitted =
+      let parts = first_none call calls uncommitted in
+      one_undone k call calls (all_undone (after k call) calls parts.1) parts.0 (is_noted_in view call) refl
 
   -- and so where these notes are left out from the beginning
+  one_without : (k : Known) (call : Call) (calls : List Call) → ((j : Known) → aborted (after_all j (without view calls)) view ≡ after_all (aborted j view) (without view calls)) → is_commit_of view call ≡ false → (b : Bool) → is_noted_in view call ≡ b → aborted (after_all k (cond (not b) (call ∷ without view calls) (without view calls))) view ≡ after_all (aborted k view) (cond (not b) (call ∷ without view calls) (without view calls))
+  one_without k call calls later commit true noted = later k
+  one_without k call calls later commit false noted = later (after k call) ∙ ap (λ (j : Known). after_all j (without view calls)) (commutes k call noted commit)
+
   without_undone : (k : Known) (calls : List Call) → NoneCommits calls → aborted (after_all k (without view calls)) view ≡ after_all (aborted k view) (without view calls)
-  without_undone k [] none = refl
-  without_undone k (call ∷ calls) none = by (is_noted_in view call) refl
-    where
-      by : (b : Bool) → is_noted_in view call ≡ b → aborted (after_all k (cond (not b) (call ∷ without view calls) (without view calls))) view ≡ after_all (aborted k view) (cond (not b) (call ∷ without view calls) (without view calls))
-      by true noted = without_undone k calls (first_none call calls none).1
-      by false noted =
-          without_undone (after k call) calls (first_none call calls none).1
-          ∙ ap (λ (j : Known). after_all j (without view calls)) (commutes k call noted (first_none call calls none).0)
+  without_undone k [] uncommitted = refl
+  without_undone k (call ∷ calls) uncommitted =
+      let parts = first_none call calls uncommitted in
+      one_without k call calls (λ j. without_undone j calls parts.1) parts.0 (is_noted_in view call) refl
 
   pub undone : (k : Known) (calls : List Call) → NoneCommits calls → aborted (after_all k calls) view ≡ aborted (after_all k (without view calls)) view
-  undone k calls none = all_undone k calls none ∙ sym (without_undone k calls none)
+  undone k calls uncommitted = all_undone k calls uncommitted ∙ sym (without_undone k calls uncommitted)
 
   pub unseen : (k : Known) (calls : List Call) (other inode : ℕ) → NoneCommits calls → other ≢ view → times_of (after_all k calls) other inode ≡ times_of (after_all k (without view calls)) other inode
-  unseen k calls other inode none away =
+  unseen k calls other inode uncommitted away =
       sym (stays (after_all k calls) view other inode away)
-      ∙ ap (λ (j : Known). times_of j other inode) (undone k calls none)
+      ∙ ap (λ (j : Known). times_of j other inode) (undone k calls uncommitted)
       ∙ stays (after_all k (without view calls)) view other inode away
 
   -- nothing was noted before
@@ -148,11 +148,11 @@ module _ (view : ℕ) (live : view ≢ 0) where
       by v q false differ = refl
 
   pub never : (k : Known) (calls : List Call) → NoneCommits calls → ((inode : ℕ) → k.noted view inode ≡ nothing) → aborted (after_all k calls) view ≡ after_all k (without view calls)
-  never k calls none before = all_undone k calls none ∙ ap (λ (j : Known). after_all j (without view calls)) (nothing_gone k before)
+  never k calls uncommitted before = all_undone k calls uncommitted ∙ ap (λ (j : Known). after_all j (without view calls)) (nothing_gone k before)
 
 pub notes_stay_in_their_view : NotesStayInTheirView
 notes_stay_in_their_view = record {
-  unseen = λ k view calls other inode live none away. unseen view live k calls other inode none away;
-  undone = λ k view calls live none. undone view live k calls none;
-  never = λ k view calls live none before. never view live k calls none before;
+  unseen = λ k view calls other inode live uncommitted away. unseen view live k calls other inode uncommitted away;
+  undone = λ k view calls live uncommitted. undone view live k calls uncommitted;
+  never = λ k view calls live uncommitted before. never view live k calls uncommitted before;
 }

@@ -8,7 +8,7 @@ use Rattle.std.proofs.lemmas.Map.Entries.{none_past_head}
 use Rattle.std.proofs.lemmas.Map.Keys.{IsDistinct-tail}
 use Rattle.model.specs.FiniteMap.{FinMap, get}
 use Rattle.view_times.specs.Kept.{merged_if, notes_by}
-use Rattle.view_times.specs.Noted.{merged}
+use Rattle.view_times.specs.Noted.{merged, nothing}
 use Rattle.view_times.specs.declared.noted.Notes.{Notes}
 use Rattle.view_times.specs.declared.times.Times.{Times}
 use Rattle.view_times.proofs.Written.{turned}

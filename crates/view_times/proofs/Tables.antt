@@ -109,18 +109,18 @@ module _ {F : Type 0} (T : F → ℕ → Table → Bool → Table → F → Type
 abbrev pub Forgets : ℕ → Table → Table → Type 0
 Forgets inode was now = (now.rows ≡ remove was.rows inode) × (was.room ≤ now.room)
 
+none_left : (b : Bool) → ◌≡◌ {A = Option Notes} None (cond b None None)
+none_left true = refl
+none_left false = refl
+
 pub forgotten_notes : (inode : ℕ) (o p : Option Table) → IsEach (Forgets inode) o p → (q : ℕ) → note_by p q ≡ cond (inode == q) None (note_by o q)
-forgotten_notes inode (Some was) (Some now) each q = ap (λ (m : FinMap nat_cmp Notes). get m q) each.0 ∙ removed_at was.rows inode q
-forgotten_notes inode (Some was) None each q = absurd each
-forgotten_notes inode None (Some now) each q = absurd each
-forgotten_notes inode None None each q = by (inode == q)
-  where
-    by : (b : Bool) → None ≡ cond b None None
-    by true = refl
-    by false = refl
+forgotten_notes inode (Some was) (Some now) alike q = ap (λ (m : FinMap nat_cmp Notes). get m q) alike.0 ∙ removed_at was.rows inode q
+forgotten_notes inode (Some was) None alike q = absurd alike
+forgotten_notes inode None (Some now) alike q = absurd alike
+forgotten_notes inode None None alike q = none_left (inode == q)
 
 pub forgotten_room : (inode : ℕ) (o p : Option Table) → IsEach (Forgets inode) o p → room_by o ≤ room_by p
-forgotten_room inode (Some was) (Some now) each = each.1
-forgotten_room inode (Some was) None each = absurd each
-forgotten_room inode None (Some now) each = absurd each
-forgotten_room inode None None each = omega arith
+forgotten_room inode (Some was) (Some now) alike = alike.1
+forgotten_room inode (Some was) None alike = absurd alike
+forgotten_room inode None (Some now) alike = absurd alike
+forgotten_room inode None None alike = omega arith

@@ -1,5 +1,5 @@
 -- What a map gives behind a change of one of its entries.
-use Rattle.std.proofs.Common.{◌≡◌, ℕ, ◌==◌, List, Some, None, cond, nat_eq, sym, ap, ◌∙◌}
+use Rattle.std.proofs.Common.{◌≡◌, ◌≢◌, ℕ, ◌==◌, Bor, List, Option, Some, None, cond, nat_eq, option_copied, refl, sym, ap, ◌∙◌, true, false, is_some, true≢false}
 use Rattle.std.specs.Cmp.{eq_by_cmp_equiv, nat_cmp_total, nat_eq_equiv, unsigned_ties}
 use Rattle.std.specs.Map.{lookup}
 use Rattle.std.specs.Ordering.{eq_by_cmp, nat_cmp}
@@ -47,3 +47,15 @@ module _ {X : Type 0} where
 
   pub removed_at : (m : finite.FinMap nat_cmp X) (number q : ℕ) → finite.get (finite.remove m number) q ≡ cond (number == q) None (finite.get m q)
   removed_at m number q = finite.get-remove nat_cmp_total m number q ∙ ap (λ b. cond b None (finite.get m q)) (tied number q)
+
+-- what was found is there, and what was not found is not
+pub is_there : {X : Type 0} (o : Option (Bor X)) (kept : Option X) → option_copied o ≡ kept → is_some o ≡ true → kept ≢ None
+is_there (Some x) kept copied some = λ none. some_none x.now (copied ∙ none)
+  where
+    some_none : {X : Type 0} (x : X) → Some x ≡ None → ⊥
+    some_none x e = absurd cc
+is_there None kept copied some = absurd (true≢false (sym some))
+
+pub is_absent : {X : Type 0} (o : Option (Bor X)) (kept : Option X) → option_copied o ≡ kept → is_some o ≡ false → kept ≡ None
+is_absent (Some x) kept copied none = absurd (true≢false none)
+is_absent None kept copied none = sym copied

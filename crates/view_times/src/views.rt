@@ -1,6 +1,6 @@
 // What each view has noted of each inode.
 ghost use Rattle.std.specs.Prelude.{◌≡◌, ◌≢◌, ◌+◌, ◌≤◌, ◌<◌, ◌==◌, ◌&&◌, ℕ, IsOk, OnErr, OnOk};
-ghost use Rattle.std.specs.Prelude.{None, Some, if◌then◌else◌, option_copied};
+ghost use Rattle.std.specs.Prelude.{None, Some, if◌then◌else◌, option_copied, true};
 ghost use Rattle.model.specs.FiniteMap as map;
 ghost use Rattle.view_times.specs.Kept.{note_at, notes_by, notes_in, room_by};
 ghost use Rattle.view_times.specs.Noted.{behind};
