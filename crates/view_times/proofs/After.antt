@@ -1,18 +1,18 @@
 -- What is known behind each call, by the tables that it leaves, and that places stay.
 use Rattle.std.proofs.Common.{◌≡◌, ◌≢◌, ℕ, ◌+◌, ◌≤◌, ◌==◌, ◌&&◌, Bool, true, false, cond, Option, Some, None, nat_cmp, refl, sym, ap, ◌∙◌, arith, eq-eqb, eqb-true, is_some, min, ne_eqb, true≢false}
-use Rattle.std.proofs.lemmas.Bool.{cond-false, cond-true, or_parts}
+use Rattle.std.proofs.lemmas.Bool.{cond-false, cond-true}
 use Rattle.fuse.specs.declared.request.Time.{Time}
 use Rattle.model.specs.FiniteMap.{FinMap, empty, get, get-empty, insert, remove}
 use Rattle.view_times.specs.Events.{notes_of}
 use Rattle.view_times.specs.Kept.{HavePlaces, Kept, known, merged_if, note_at, note_by, notes_by, notes_in, room_by, room_of, times_by, times_in}
-use Rattle.view_times.specs.Known.{Known, aborted, committed, freed, noted_by, nothing_known, put}
+use Rattle.view_times.specs.Known.{aborted, committed, freed, noted_by, nothing_known, put}
 use Rattle.view_times.specs.Noted.{behind, merged, nothing, over}
 use Rattle.view_times.specs.Rows.{Rows}
 use Rattle.view_times.specs.Times.{first_times}
 use Rattle.view_times.specs.declared.event.Event.{Event}
 use Rattle.view_times.specs.declared.noted.Notes.{Notes}
 use Rattle.view_times.specs.declared.times.Times.{Times}
-use Rattle.view_times.proofs.Calls.{is_no_commit, is_plain_note, is_view_commit, is_view_note, plain_note, view_commit, view_note}
+use Rattle.view_times.proofs.Calls.{is_view_commit, is_view_note, plain_note, view_commit, view_note}
 use Rattle.view_times.proofs.Merging.{merged_nothing}
 use Rattle.view_times.proofs.Puts.{same_known}
 use Rattle.view_times.proofs.Tables.{taken_notes}

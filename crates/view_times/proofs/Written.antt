@@ -1,5 +1,5 @@
 -- What a map gives behind a change of one of its entries.
-use Rattle.std.proofs.Common.{◌≡◌, ◌≢◌, ℕ, ◌==◌, Bor, List, Option, Some, None, cond, nat_eq, option_copied, refl, sym, ap, ◌∙◌, true, false, is_some, true≢false}
+use Rattle.std.proofs.Common.{◌≡◌, ◌≢◌, ℕ, ◌==◌, Bor, List, Option, Some, None, cond, nat_eq, option_copied, sym, ap, ◌∙◌, true, false, is_some, true≢false}
 use Rattle.std.specs.Cmp.{eq_by_cmp_equiv, nat_cmp_total, nat_eq_equiv, unsigned_ties}
 use Rattle.std.specs.Map.{lookup}
 use Rattle.std.specs.Ordering.{eq_by_cmp, nat_cmp}

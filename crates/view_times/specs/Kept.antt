@@ -1,5 +1,5 @@
 -- What is kept of times, as maps with room, and what is known by it.
-use Rattle.std.specs.Prelude.{◌≡◌, ℕ, ◌==◌, min, Bool, true, refl, is_some, if◌then◌else◌}
+use Rattle.std.specs.Prelude.{◌≡◌, ℕ, ◌==◌, min, true, refl, is_some, if◌then◌else◌}
 use Rattle.std.specs.Prelude.{Option, Some, None}
 use Rattle.std.specs.Coded.{Coded, code_by, coded×, coded_ℕ}
 use Rattle.std.specs.Ordering.{nat_cmp}

@@ -13,7 +13,7 @@ pub record CallsTellTimes : Type 0 where
   -- the view of an event sees it, over what it saw
   pub sees : (k : Known) (view inode : ℕ) (event : Event) (now : Time)
       → times_of (noted_by k view inode event now) view inode
-        ≡ over (notes_of event now) (times_of k view inode)
+      ≡ over (notes_of event now) (times_of k view inode)
   -- no other one sees what is noted in a transaction
   pub unseen : (k : Known) (view inode : ℕ) (event : Event) (now : Time) (other any : ℕ)
       → view ≢ 0 → other ≢ view
@@ -21,7 +21,7 @@ pub record CallsTellTimes : Type 0 where
   -- of what happens in the plain tree a transaction sees each time of which it has noted nothing
   pub shown : (k : Known) (inode : ℕ) (event : Event) (now : Time) (view : ℕ) → view ≢ 0
       → times_of (noted_by k 0 inode event now) view inode
-        ≡ over (k.noted view inode) (over (notes_of event now) (k.everybody inode))
+      ≡ over (k.noted view inode) (over (notes_of event now) (k.everybody inode))
   -- nothing changes of another inode
   pub apart : (k : Known) (view inode : ℕ) (event : Event) (now : Time) (other any : ℕ)
       → any ≢ inode → times_of (noted_by k view inode event now) other any ≡ times_of k other any
@@ -33,7 +33,7 @@ pub record CallsTellTimes : Type 0 where
   -- another transaction sees of it each time of which it has noted nothing
   pub spreads : (k : Known) (view inode other : ℕ) → view ≢ 0 → other ≢ 0 → other ≢ view
       → times_of (committed k view) other inode
-        ≡ over (k.noted other inode) (merged (k.noted view inode) (times_of k 0 inode))
+      ≡ over (k.noted other inode) (merged (k.noted view inode) (times_of k 0 inode))
   -- behind an abort the view sees what the plain tree does, and others what they saw
   pub aborts : (k : Known) (view inode : ℕ)
       → times_of (aborted k view) view inode ≡ times_of k 0 inode
@@ -89,7 +89,7 @@ pub record NotesStayInTheirView : Type 0 where
   pub unseen : (k : Known) (view : ℕ) (calls : List Call) (other inode : ℕ) → view ≢ 0
       → list_any (is_commit_of view) calls ≡ false → other ≢ view
       → times_of (after_all k calls) other inode
-        ≡ times_of (after_all k (without view calls)) other inode
+      ≡ times_of (after_all k (without view calls)) other inode
   pub undone : (k : Known) (view : ℕ) (calls : List Call) → view ≢ 0
       → list_any (is_commit_of view) calls ≡ false
       → aborted (after_all k calls) view ≡ aborted (after_all k (without view calls)) view

@@ -20,7 +20,7 @@ fn merge_in(
 )
     ensures times { (q : ℕ) → map.get (rows_in rows.new) q
         ≡ (if inode == q then merged_if notes (map.get (rows_in rows.old) q)
-          else map.get (rows_in rows.old) q) }
+        else map.get (rows_in rows.old) q) }
     ensures room { spare rows.new ≡ spare rows.old }
 {
     match rows.get_mut(&inode) {
@@ -45,7 +45,7 @@ impl ByNumber<Times> {
     fn merge(&mut self, inode: u64, notes: Notes)
         ensures times { (q : ℕ) → map.get self.new.rows q
             ≡ (if inode == q then merged_if notes (map.get self.old.rows q)
-              else map.get self.old.rows q) }
+            else map.get self.old.rows q) }
         ensures room { self.new.room ≡ self.old.room }
     {
         merge_in(&mut self.rows, inode, notes);

@@ -138,7 +138,7 @@ impl Views {
         requires { 0 < room_by (map.get self.old view) }
         ensures notes { (v q : ℕ) → note_at self.new v q
             ≡ (if view == v && inode == q then Some (behind notes (notes_in self.old view inode))
-              else note_at self.old v q) }
+            else note_at self.old v q) }
         ensures room { (v : ℕ) → room_by (map.get self.old v) ≤ room_by (map.get self.new v) + 1 }
     {
         match self.tables.get_mut(&view) {
@@ -161,13 +161,15 @@ impl Views {
             ≡ (if inode == q then None else note_at self.old v q) }
         ensures room { (v : ℕ) → room_by (map.get self.old v) ≤ room_by (map.get self.new v) }
     {
-        self.tables.retain(move |_, table| -> bool
-            ensures kept { result ≡ true }
-            ensures rows { table.new.rows ≡ map.remove table.old.rows inode }
-            ensures room { table.old.room ≤ table.new.room }
-        {
-            table.remove(inode);
-            true
-        });
+        self.tables.retain(
+            move |_, table| -> bool
+                ensures kept { result ≡ true }
+                ensures rows { table.new.rows ≡ map.remove table.old.rows inode }
+                ensures room { table.old.room ≤ table.new.room }
+            {
+                table.remove(inode);
+                true
+            },
+        );
     }
 }

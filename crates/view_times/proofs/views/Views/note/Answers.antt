@@ -1,4 +1,4 @@
-use Rattle.std.proofs.Common.{◌≡◌, ◌+◌, ◌≤◌, ◌<◌, ℕ, ◌==◌, ◌&&◌, cond, Some, None, arith, nat_cmp, sym, ap, subst, ◌∙◌}
+use Rattle.std.proofs.Common.{◌≡◌, ◌+◌, ◌≤◌, ℕ, ◌==◌, ◌&&◌, cond, Some, arith, nat_cmp, sym, ap, subst, ◌∙◌}
 use Rattle.std.specs.Option.{is_some}
 use Rattle.model.specs.FiniteMap.{FinMap, get}
 use Rattle.view_times.specs.Kept.{note_at, notes_in, room_by}
