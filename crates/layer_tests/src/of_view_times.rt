@@ -4,9 +4,11 @@ use fuse::Time;
 use heap::Heap;
 use ids::Num;
 use std::process::Abort;
-use view_times::{Event, PLAIN, ViewTimes};
+use view_times::{Event, ViewTimes};
 
-// The view of a transaction.
+// The plain tree, and the view of a transaction.
+const PLAIN: u64 = 0;
+
 const VIEW: u64 = 7;
 
 // So many inodes that each table grows some times.

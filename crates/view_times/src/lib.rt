@@ -19,4 +19,4 @@ mod views;
 pub use event::Event;
 pub use laws::{calls_tell_times, notes_stay_in_their_view};
 pub use times::{Times, later};
-pub use view_times::{PLAIN, ViewTimes};
+pub use view_times::ViewTimes;

@@ -14,9 +14,9 @@ use ids::Num;
 use std::alloc::AllocError;
 use std::marker::Model;
 
-/// The view of the plain tree: what happens there is everybody's at once. Each other number is the view
-/// of a transaction.
-pub const PLAIN: u64 = 0;
+// The view of the plain tree: what happens there is everybody's at once. Each other number is the view of
+// a transaction.
+const PLAIN: u64 = 0;
 
 /// The times of all inodes: those that everybody has, and what each view of a transaction has noted,
 /// which no other one sees before it is committed.
