@@ -82,8 +82,8 @@ by_plan {P} {s = s} {later = later} {old = old} {new = new} {course = course} {S
 
 -- ---- by what a request was
 
-pub opens_as : (s later : Seen) (pid : ℕ) (cut : Cut) {o p : Opening} {old new : Shown} {r : Result Reply Failure} → o ≡ p → OpensAs s later pid cut (Ok p) old new r → OpensAs s later pid cut (Ok o) old new r
-opens_as s later pid cut {old = old} {new = new} {r = r} e h = subst (λ (x : Opening). OpensAs s later pid cut (Ok x) old new r) (sym e) h
+pub opens_as : (s later : Seen) (pid node : ℕ) (cut : Cut) {o p : Opening} {old new : Shown} {r : Result Reply Failure} → o ≡ p → OpensAs s later pid node cut (Ok p) old new r → OpensAs s later pid node cut (Ok o) old new r
+opens_as s later pid node cut {old = old} {new = new} {r = r} e h = subst (λ (x : Opening). OpensAs s later pid node cut (Ok x) old new r) (sym e) h
 
 pub not_reserved : (s later : Seen) (pid node : ℕ) (name : List ℕ) {old new : Shown} {r : Result Reply Failure} → is_reserved node name ≡ false → AnswersName s later pid node name old new r → AnswersLookUp s later pid node name old new r
 not_reserved s later pid node name {old} {new} {r} e h = subst (λ (b : Bool). AnswersLookUpBy b s later pid node name old new r) (sym e) h

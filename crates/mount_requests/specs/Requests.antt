@@ -1,5 +1,5 @@
 -- The plan of each request about a node of a tree, its course, what its reply shows, and what is known
--- then of nodes and open files: all that is not told here stands.
+-- then of nodes, open files and times: all that is not told here stands.
 use Rattle.std.specs.Prelude.{◌≡◌, ℕ, ◌+◌, ◌==◌, ◌&&◌, min, ℤ}
 use Rattle.std.specs.Prelude.{List, [], Bool, true, false, Option, Some, None, is_some}
 use Rattle.std.specs.Prelude.{Result, Ok, Err, if◌then◌else◌}
@@ -15,9 +15,7 @@ use Rattle.fuse.specs.declared.request.Operation.{Operation}
 use Rattle.fuse.specs.declared.request.Operation.TheVariants as asked
 use Rattle.fuse.specs.declared.request.Whence.{Whence}
 use Rattle.machine.specs.Shown.{Shown}
-use Rattle.nodes.specs.Tables.{detached, looked_up, made}
-use Rattle.nodes.specs.Tables.{moved as renamed}
-use Rattle.nodes.specs.Tables.{Table}
+use Rattle.nodes.specs.Tables.{Table, is_current, looked_up, made}
 use Rattle.course.specs.Course.{Course, Give, ◌>>=◌}
 use Rattle.course.specs.Courses.{appending, closing_spare, creating_in, cutting, doing, dropping_if}
 use Rattle.course.specs.Courses.{finding, inside, linking, listing_at, making_directory}
@@ -27,10 +25,8 @@ use Rattle.course.specs.declared.fault.Fault.{Fault}
 use Rattle.course.specs.declared.files.Made.{Made}
 use Rattle.course.specs.declared.made.Cut.{Cut}
 use Rattle.course.specs.declared.updates.Update.{Update}
-use Rattle.mount_tables.specs.Files.{counted}
 use Rattle.mount_tables.specs.Folders.{Opened}
 use Rattle.mount_tables.specs.Numbers.{is_reserved}
-use Rattle.mount_tables.specs.Processes.{held}
 use Rattle.mount_tables.specs.declared.open_files.OpenFile.{OpenFile}
 use Rattle.mount_requests.specs.Answers.{Answers, AnswersIfRoom, Says}
 use Rattle.mount_requests.specs.Asked.{absent_in, creation, cut_by, drops, given, length_in, offset_by}
@@ -39,8 +35,12 @@ use Rattle.mount_requests.specs.Failures.{and_then, error, found_or}
 use Rattle.mount_requests.specs.Found.{file_by, folder_at, handle_at, handle_of, inode_of, located_child}
 use Rattle.mount_requests.specs.Found.{located_made, located_new, located_own, object_of, once}
 use Rattle.mount_requests.specs.Found.{own_paths, paths_to, shown_names, stepper_at, twice}
+use Rattle.mount_requests.specs.Later.{opened_again, opened_first, with_creation, with_link}
+use Rattle.mount_requests.specs.Later.{with_look_up, with_made, with_move, without_name}
 use Rattle.mount_requests.specs.Listed.{Lists}
 use Rattle.mount_requests.specs.Seen.{Seen}
+use Rattle.mount_requests.specs.Times.{of_cutting, of_setting, of_writing, times_at, times_if}
+use Rattle.mount_requests.specs.Times.{with_events, with_events_if}
 use Rattle.mount_requests.specs.Told.{ShowsAttributes, ShowsBytes, ShowsCount, ShowsCreated, ShowsEntry}
 use Rattle.mount_requests.specs.Told.{ShowsHandle, ShowsNothing, ShowsSought, named, sought}
 use Rattle.mount_requests.specs.declared.changing.Setting.{Setting}
@@ -59,38 +59,6 @@ use Rattle.mount_requests.specs.declared.reading.Directory.{Directory}
 use Rattle.mount_requests.specs.declared.removing.Moving.{Moving}
 use Rattle.mount_requests.specs.declared.requests.Caller.{Caller}
 
--- ---- what is known then
-
--- a name was looked up, and gave an object
-abbrev pub with_look_up : Seen → ℕ → List ℕ → Stat → Seen
-with_look_up s node name stat =
-    record s { nodes = looked_up s.nodes (named node name) stat.num stat.kind }
-
--- an object was made, and what its number meant before is gone
-abbrev pub with_birth : Seen → Stat → Seen
-with_birth s stat = record s { nodes = made s.nodes stat.num }
-
-abbrev pub with_made : Seen → ℕ → List ℕ → Stat → Seen
-with_made s node name stat = with_look_up (with_birth s stat) node name stat
-
--- a name was taken away
-abbrev pub without_name : Seen → ℕ → List ℕ → Seen
-without_name s node name = record s { nodes = detached s.nodes (named node name) }
-
--- a file was opened by a descriptor of a process, which has one more in the plain tree
-abbrev pub opened_first : Seen → ℕ → ℕ → ℕ → ℕ → Seen
-opened_first s view inode pid fd = record s {
-  files = map.insert s.files s.next_file
-      (record { view = view; inode = inode; pid = pid; fd = fd; opens = 1 });
-  handles = map.insert s.handles (record { view = view; inode = inode }) s.next_file;
-  next_file = s.next_file + 1;
-  roles = if view == 0 then held pid (map.get s.roles pid) s.roles else s.roles;
-}
-
--- or once more under the number that it has
-abbrev pub opened_again : Seen → ℕ → Seen
-opened_again s handle = record s { files = counted handle (map.get s.files handle) s.files }
-
 -- ---- looking
 
 -- The directory of transactions stands in the root of the plain tree alone.
@@ -103,7 +71,8 @@ abbrev pub AnswersName : Seen → Seen → ℕ → ℕ → List ℕ → Shown �
 AnswersName s later pid node name old new result =
     Answers s later old new (located_child s node name)
     (λ p. inside pid p.place (stating pid (call.Lstat p.path)))
-    (λ p stat known r. Says (ShowsEntry s.nodes (named node name) stat) r
+    (λ p stat known r.
+    Says (ShowsEntry s.nodes (named node name) stat (times_at s s.times node stat.num)) r
     × (known ≡ with_look_up s node name stat)) result
 
 abbrev pub AnswersLookUpBy : Bool → Seen → Seen → ℕ → ℕ → List ℕ → Shown → Shown
@@ -121,7 +90,8 @@ AnswersLookUp s later pid node name old new result =
 abbrev pub AnswersGetAttr : Seen → Seen → ℕ → ℕ → Shown → Shown → Result Reply Failure → Type 0
 AnswersGetAttr s later pid node old new result =
     Answers s later old new (object_of s pid node) (finding pid)
-    (λ o stat known r. Says (ShowsAttributes stat) r × (known ≡ s)) result
+    (λ o stat known r. Says (ShowsAttributes stat (times_if s s.times node stat.num)) r
+    × (known ≡ s)) result
 
 -- the object of a node, by its path: a symbolic link, if its target is told
 abbrev pub linked : Seen → ℕ → Result Linked Failure
@@ -151,16 +121,23 @@ abbrev pub AnswersSetAttr : Seen → Seen → ℕ → ℕ → Changes → Shown 
     → Type 0
 AnswersSetAttr s later pid node changes old new result =
     Answers s later old new (setting s pid node changes) (λ p. setting_by pid p p.update)
-    (λ p stat known r. Says (ShowsAttributes stat) r × (known ≡ s)) result
+    (λ p stat known r. Says (ShowsAttributes stat (times_if s known.times node stat.num)) r
+    × (known ≡ with_events_if (is_current s.nodes node) node (of_setting changes s.time stat.num) s))
+    result
 
 -- ---- making names
+
+-- what was made, with the times that it has then
+abbrev pub ShowsMade : Seen → Seen → ℕ → List ℕ → Stat → Result Reply Failure → Type 0
+ShowsMade s known node name stat r = Says (ShowsEntry (made s.nodes stat.num) (named node name) stat
+    (times_at s known.times node stat.num)) r
 
 abbrev pub AnswersMkDir : Seen → Seen → ℕ → Caller → List ℕ → ℕ → Shown → Shown
     → Result Reply Failure → Type 0
 AnswersMkDir s later pid who name mode old new result =
     Answers s later old new (located_made s who.node name)
     (λ p. making_inside pid p.parent (making_directory pid p.path p.again (given who.owner mode)))
-    (λ p stat known r. Says (ShowsEntry (made s.nodes stat.num) (named who.node name) stat) r
+    (λ p stat known r. ShowsMade s known who.node name stat r
     × (known ≡ with_made s who.node name stat)) result
 
 abbrev pub AnswersSymLink : Seen → Seen → ℕ → Caller → List ℕ → List ℕ → Shown → Shown
@@ -168,7 +145,7 @@ abbrev pub AnswersSymLink : Seen → Seen → ℕ → Caller → List ℕ → Li
 AnswersSymLink s later pid who name target old new result =
     Answers s later old new (located_made s who.node name)
     (λ p. making_inside pid p.parent (making_link pid target p.path p.again who.owner))
-    (λ p stat known r. Says (ShowsEntry (made s.nodes stat.num) (named who.node name) stat) r
+    (λ p stat known r. ShowsMade s known who.node name stat r
     × (known ≡ with_made s who.node name stat)) result
 
 abbrev pub planned_node : Seen → ℕ → List ℕ → ℕ → Result NewNode Failure
@@ -181,7 +158,7 @@ AnswersMkNod s later pid who name mode old new result =
     Answers s later old new (planned_node s who.node name mode)
     (λ p. making_inside pid p.at.parent
     (making_node pid p.special p.at.path p.at.again (given who.owner mode)))
-    (λ p stat known r. Says (ShowsEntry (made s.nodes stat.num) (named who.node name) stat) r
+    (λ p stat known r. ShowsMade s known who.node name stat r
     × (known ≡ with_made s who.node name stat)) result
 
 -- nothing is linked or moved from one view to another
@@ -204,8 +181,9 @@ abbrev pub AnswersLink : Seen → Seen → ℕ → ℕ → ℕ → List ℕ → 
 AnswersLink s later pid parent node name old new result =
     Answers s later old new (linking_in s parent node name)
     (λ l. inside pid l.place (linking pid l.from.first l.inode l.to.first))
-    (λ l stat known r. Says (ShowsEntry s.nodes (named parent name) stat) r
-    × (known ≡ with_look_up s parent name stat)) result
+    (λ l stat known r. Says (ShowsEntry s.nodes (named parent name) stat
+    (times_at s known.times parent stat.num)) r
+    × (known ≡ with_link s parent name l.inode stat)) result
 
 -- ---- taking names away, and moving them
 
@@ -239,10 +217,6 @@ abbrev pub moving_by : ℕ → Moving → Course (Result (Unit {0}) Fault)
 moving_by pid m =
     inside pid m.from.place (inside pid m.to.place (moving pid m.from.path m.to.path m.absent))
 
-abbrev pub with_move : Seen → ℕ → List ℕ → ℕ → List ℕ → Seen
-with_move s node name new_node new_name =
-    record s { nodes = renamed s.nodes (named node name) (named new_node new_name) }
-
 abbrev pub AnswersRename : Seen → Seen → ℕ → ℕ → List ℕ → ℕ → List ℕ → ℕ → Shown → Shown
     → Result Reply Failure → Type 0
 AnswersRename s later pid node name new_node new_name flags old new result =
@@ -271,23 +245,26 @@ opened_by pid how (Again inode handle fd) = cutting pid fd how >>= on_ok (λ don
 opened_by pid how (First view path inode) = opening_cut pid path inode how
 
 -- what is known then, and under which number the file is open
-abbrev pub with_opening : Seen → ℕ → Opening → ℕ → Seen
-with_opening s pid (Again inode handle fd) given = opened_again s handle
-with_opening s pid (First view path inode) given = opened_first s view inode pid given
+abbrev pub with_opening : Seen → ℕ → ℕ → Cut → Opening → ℕ → Seen
+with_opening s pid node how (Again inode handle fd) given =
+    opened_again (with_events node (of_cutting how inode) s) handle
+with_opening s pid node how (First view path inode) given =
+    opened_first (with_events node (of_cutting how inode) s) view inode pid given
 
 abbrev pub handle_by : Seen → Opening → ℕ
 handle_by s (Again inode handle fd) = handle
 handle_by s (First view path inode) = s.next_file
 
-abbrev pub OpensAs : Seen → Seen → ℕ → Cut → Result Opening Failure → Shown → Shown
+abbrev pub OpensAs : Seen → Seen → ℕ → ℕ → Cut → Result Opening Failure → Shown → Shown
     → Result Reply Failure → Type 0
-OpensAs s later pid how plan old new result =
+OpensAs s later pid node how plan old new result =
     Answers s later old new plan (opened_by pid how)
-    (λ o fd known r. Says (ShowsHandle (handle_by s o)) r × (known ≡ with_opening s pid o fd)) result
+    (λ o fd known r. Says (ShowsHandle (handle_by s o)) r
+    × (known ≡ with_opening s pid node how o fd)) result
 
 abbrev pub AnswersOpen : Seen → Seen → ℕ → ℕ → ℕ → ℕ → Shown → Shown → Result Reply Failure → Type 0
 AnswersOpen s later pid node flags how old new result =
-    OpensAs s later pid (cut_by flags how) (opening s pid node) old new result
+    OpensAs s later pid node (cut_by flags how) (opening s pid node) old new result
 
 -- a file is made, or the one of that name is opened, unless it is open already
 abbrev pub making_open : Seen → ℕ → Creation → NewName → Course (Result Made Fault)
@@ -314,10 +291,11 @@ abbrev pub born_if : Bool → Table → ℕ → Table
 born_if true t inode = made t inode
 born_if false t inode = t
 
-abbrev pub with_created : Seen → ℕ → ℕ → ℕ → List ℕ → Made → Seen
-with_created s view pid node name made = record (with_open s view pid made) {
+abbrev pub with_created : Seen → ℕ → ℕ → ℕ → List ℕ → Cut → Made → Seen
+with_created s view pid node name how made = record (with_open s view pid made) {
   nodes = looked_up (born_if made.is_new s.nodes made.stat.num) (named node name)
       made.stat.num made.stat.kind;
+  times = (with_creation made.is_new s node how made.stat.num).times;
 }
 
 abbrev pub AnswersCreate : Seen → Seen → ℕ → Caller → List ℕ → Creation → Shown → Shown
@@ -325,8 +303,9 @@ abbrev pub AnswersCreate : Seen → Seen → ℕ → Caller → List ℕ → Cre
 AnswersCreate s later pid who name c old new result =
     Answers s later old new (located_made s who.node name) (making_open s pid c)
     (λ p made known r. Says (ShowsCreated (born_if made.is_new s.nodes made.stat.num)
-    (named who.node name) made.stat (handle_made s p.view made)) r
-    × (known ≡ with_created s p.view pid who.node name made)) result
+    (named who.node name) made.stat (times_at s known.times who.node made.stat.num)
+    (handle_made s p.view made)) r
+    × (known ≡ with_created s p.view pid who.node name c.cut made)) result
 
 -- ---- open files
 
@@ -354,12 +333,13 @@ abbrev pub written_by : ℕ → List ℕ → Bool → ℕ → Option ℤ → Cou
 written_by pid bytes dropping fd offset =
     dropping_if pid fd dropping >>= on_ok (λ dropped. put_by pid bytes fd offset)
 
-abbrev pub AnswersWrite : Seen → Seen → ℕ → ℕ → ℕ → ℕ → ℕ → List ℕ → Shown → Shown
+abbrev pub AnswersWrite : Seen → Seen → ℕ → ℕ → ℕ → ℕ → ℕ → ℕ → List ℕ → Shown → Shown
     → Result Reply Failure → Type 0
-AnswersWrite s later pid handle offset how flags bytes old new result =
+AnswersWrite s later pid node handle offset how flags bytes old new result =
     Answers s later old new (writes s pid handle offset flags)
     (λ w. written_by pid bytes (drops how) w.fd w.offset)
-    (λ w count known r. Says (ShowsCount count) r × (known ≡ s)) result
+    (λ w count known r. Says (ShowsCount count) r
+    × (known ≡ with_events node (of_writing w.inode) s)) result
 
 abbrev pub AnswersSeek : Seen → Seen → ℕ → ℕ → ℕ → Whence → Shown → Shown → Result Reply Failure
     → Type 0
@@ -453,7 +433,7 @@ IsOfFiles s later pid node (asked.Open flags how) old new r =
 IsOfFiles s later pid node (asked.Read handle offset size flags) old new r =
     AnswersRead s later pid handle offset size old new r
 IsOfFiles s later pid node (asked.Write handle offset how flags bytes) old new r =
-    AnswersWrite s later pid handle offset how flags bytes old new r
+    AnswersWrite s later pid node handle offset how flags bytes old new r
 IsOfFiles s later pid node (asked.Lseek handle offset whence) old new r =
     AnswersSeek s later pid handle offset whence old new r
 IsOfFiles s later pid node _ old new r = Tells (Err (error errno.ENOSYS)) s later old new r

@@ -13,7 +13,6 @@ use course::{Fault, Hand, Object, Paths, Update, find, permissions_in, update};
 use fuse::{Changes, Errno, Reply};
 use ids::{NewOwner, Permissions, Pid, Stat};
 use machine::Machine;
-use std::alloc::AllocError;
 
 // An object, what is set of it, and the path by which that is set where it is not open.
 #[derive(Drop)]
@@ -112,24 +111,6 @@ impl Tables {
         })
     }
 
-    // Makes room for what is set, and hears the time that comes with it.
-    fn reserve_changes(&mut self, changes: &Changes) -> Result<(), AllocError>
-        ensures { seen self.new ≡ seen self.old }
-    {
-        self.attributes.hear_changes(changes);
-        self.attributes.reserve()
-    }
-
-    // Keeps the times that were set of the object of a node. Of one that is gone nothing is kept under
-    // its number, since that may be another's.
-    fn keep_changes(&mut self, node: u64, stat: &Stat, changes: &Changes)
-        ensures { seen self.new ≡ seen self.old }
-    {
-        if self.nodes.is_current(node) {
-            self.attributes.change(stat.num, changes);
-        }
-    }
-
     // Sets attributes of a node.
     pub(crate) fn set_attr<K: Machine>(
         &mut self,
@@ -142,9 +123,9 @@ impl Tables {
             hand.old.shown hand.new.shown result }
     {
         let setting = self.plan_setting(hand.pid(), node, changes)?;
-        self.reserve_changes(changes)?;
+        self.reserve_events(node)?;
         let stat = set(hand, setting)?;
-        self.keep_changes(node, &stat, changes);
+        self.note_set(node, stat.num, changes);
         Ok(Reply::Attr(self.attr_at(node, &stat)))
     }
 }

@@ -168,10 +168,11 @@ impl Tables {
         Ok(Writing { inode, fd, offset })
     }
 
-    // Puts bytes into an open file.
+    // Puts bytes into an open file, by a request about this node.
     pub(crate) fn write<K: Machine>(
         &mut self,
         hand: &mut Hand<K>,
+        node: u64,
         handle: u64,
         offset: u64,
         write_flags: u32,
@@ -179,13 +180,14 @@ impl Tables {
         bytes: Bytes,
     ) -> Result<Reply, Failure>
         ensures bound { bound hand.new ≡ bound hand.old }
-        ensures answers { AnswersWrite (seen self.old) (seen self.new) hand.old.pid handle offset
-            write_flags open_flags bytes hand.old.shown hand.new.shown result }
+        ensures answers { AnswersWrite (seen self.old) (seen self.new) hand.old.pid node handle
+            offset write_flags open_flags bytes hand.old.shown hand.new.shown result }
     {
         let writing = self.plan_write(hand.pid(), handle, offset, open_flags)?;
+        self.reserve_events(node)?;
         let inode = writing.inode;
         let size = put_dropping(hand, writing, drops(write_flags), bytes)?;
-        self.attributes.modify(inode);
+        self.note_written(node, inode);
         Ok(Reply::Written { size })
     }
 

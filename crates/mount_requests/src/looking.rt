@@ -7,6 +7,7 @@ ghost use Rattle.mount_requests.specs.Answers.{IsPlanned};
 ghost use Rattle.mount_requests.specs.Requests.{AnswersGetAttr, AnswersLookUp, AnswersName};
 ghost use Rattle.mount_requests.specs.Requests.{AnswersReadLink, IsReserved, linked};
 ghost use Rattle.mount_requests.specs.Seen.{seen};
+ghost use Rattle.mount_requests.specs.Times.{times_at, times_if};
 ghost use Rattle.mount_requests.specs.Told.{IsEntry};
 
 use crate::failure::Failure;
@@ -16,7 +17,7 @@ use course::{Hand, Twice, find};
 use fuse::{Attr, Entry, Errno, Reply};
 use ids::{Bytes, Num, Stat};
 use machine::Machine;
-use mount_tables::{AttributeTable, ROOT, TRANSACTIONS, is_reserved};
+use mount_tables::{ROOT, TRANSACTIONS, attr_of, attr_of_node, is_reserved};
 use nodes::Spot;
 
 // The object of a node, by its path, which is used twice.
@@ -30,16 +31,18 @@ impl Tables {
     // What is told of a node that was looked up, or made, under this name: its look-up is counted.
     pub(crate) fn entry(&mut self, spot: Spot, stat: &Stat) -> Entry
         requires { 0 < self.old.nodes.room }
-        ensures entry { IsEntry self.old.nodes.table spot stat.now result }
+        ensures entry { IsEntry self.old.nodes.table spot stat.now
+            (times_at (seen self.old) (seen self.old).times spot.parent stat.now.num) result }
         ensures seen { seen self.new ≡ record (seen self.old) {
           nodes = looked_up self.old.nodes.table spot stat.now.num stat.now.kind;
         } }
     {
+        let times = self.times_at(spot.entry().parent, stat.num);
         let looked: Result<_, _> = self.nodes.look_up(spot, stat.num, stat.kind);
         Entry {
             node: looked.unwrap(),
             generation: 0,
-            attr: self.attributes.attr(stat),
+            attr: attr_of(stat, times),
         }
     }
 
@@ -50,7 +53,7 @@ impl Tables {
         Entry {
             node,
             generation: 0,
-            attr: self.attributes.attr_of_node(node, is_directory),
+            attr: attr_of_node(node, is_directory, self.time),
         }
     }
 
@@ -103,16 +106,12 @@ impl Tables {
         self.look_up_name(hand, node, name)
     }
 
-    // What is told of the object of a node. Of one that is gone nothing is told that is kept under
-    // its number, since that may be of another.
+    // What is told of the object of a node.
     pub(crate) fn attr_at(&self, node: u64, stat: &Stat) -> Attr
-        ensures { IsLike stat.now result }
+        ensures { IsLike stat.now
+            (times_if (seen self.now) (seen self.now).times node stat.now.num) result }
     {
-        if self.nodes.is_current(node) {
-            self.attributes.attr(stat)
-        } else {
-            AttributeTable::new(self.heap).attr(stat)
-        }
+        attr_of(stat, self.times_if(node, stat.num))
     }
 
     // The attributes of a node.

@@ -1,13 +1,16 @@
 // Requests that make names.
-ghost use Rattle.std.specs.Prelude.{◌≡◌, ◌<◌, IfOk};
+ghost use Rattle.std.specs.Prelude.{◌≡◌, ◌≤◌, ◌<◌, ℕ, IfOk};
 ghost use Rattle.nodes.specs.Tables.{looked_up, made};
 ghost use Rattle.course.specs.Hands.{bound};
 ghost use Rattle.mount_requests.specs.Answers.{IsPlanned};
 ghost use Rattle.mount_requests.specs.Asked.{given, special_in};
+ghost use Rattle.mount_requests.specs.Later.{with_birth, with_new};
 ghost use Rattle.mount_requests.specs.Requests.{AnswersLink, AnswersMkDir, AnswersMkNod, AnswersSymLink};
 ghost use Rattle.mount_requests.specs.Requests.{linking_in, planned_node};
 ghost use Rattle.mount_requests.specs.Seen.{seen};
+ghost use Rattle.mount_requests.specs.Times.{times_at, view_at};
 ghost use Rattle.mount_requests.specs.Told.{IsEntry};
+ghost use Rattle.view_times.specs.Kept.{room_of};
 
 use crate::failure::Failure;
 use crate::planning::{Located, LocatedName, NewName, in_one_view, twice};
@@ -68,44 +71,45 @@ pub(crate) fn given(owner: Owner, mode: u32) -> Rights
 }
 
 impl Tables {
-    // The names of a directory were changed.
-    pub(crate) fn note_names(&mut self, node: u64)
-        ensures seen { seen self.new ≡ seen self.old }
-        ensures nodes { self.new.nodes ≡ self.old.nodes }
-        ensures files { self.new.files ≡ self.old.files }
-    {
-        if self.nodes.is_current(node) {
-            let parent = self.inode_of(node);
-            self.attributes.modify(parent);
-        }
-    }
-
-    // An object was made: nodes of the one that had its number before do not stand for it.
-    pub(crate) fn note_birth(&mut self, inode: Num)
+    // An object was made: nodes of the one that had its number before do not stand for it, and nothing
+    // is known any more of when that was changed.
+    fn note_birth(&mut self, inode: Num)
         requires { 0 < self.old.nodes.birth_room }
-        ensures seen { seen self.new ≡ record (seen self.old) {
-          nodes = made self.old.nodes.table inode;
-        } }
+        ensures seen { seen self.new ≡ with_birth (seen self.old) inode }
         ensures room { self.new.nodes.room ≡ self.old.nodes.room }
         ensures files { self.new.files ≡ self.old.files }
+        ensures events { (view : ℕ) → room_of self.old.times view ≤ room_of self.new.times view }
     {
         let noted: Result<_, _> = self.nodes.note_made(inode);
         noted.unwrap();
+        self.times.free(inode);
+    }
+
+    // An object was made in the directory of a node.
+    pub(crate) fn note_new(&mut self, node: u64, inode: Num)
+        requires birth { 0 < self.old.nodes.birth_room }
+        requires events { 2 ≤ room_of self.old.times (view_at (seen self.old) node) }
+        ensures seen { seen self.new ≡ with_new (seen self.old) node inode }
+        ensures room { self.new.nodes.room ≡ self.old.nodes.room }
+        ensures files { self.new.files ≡ self.old.files }
+    {
+        self.note_birth(inode);
+        self.note_made(node, inode);
     }
 
     // What is kept and told of an object that was made.
     fn entry_made(&mut self, spot: Spot, stat: &Stat) -> Entry
         requires room { 0 < self.old.nodes.room }
         requires birth { 0 < self.old.nodes.birth_room }
-        ensures entry { IsEntry (made self.old.nodes.table stat.now.num) spot stat.now result }
-        ensures seen { seen self.new ≡ record (seen self.old) {
+        requires events { 2 ≤ room_of self.old.times (view_at (seen self.old) spot.parent) }
+        ensures entry { IsEntry (made self.old.nodes.table stat.now.num) spot stat.now
+            (times_at (seen self.old) (seen self.new).times spot.parent stat.now.num) result }
+        ensures seen { seen self.new ≡ record (with_new (seen self.old) spot.parent stat.now.num) {
           nodes = looked_up (made self.old.nodes.table stat.now.num) spot
               stat.now.num stat.now.kind;
         } }
     {
-        self.attributes.create(stat.num);
-        self.note_names(spot.entry().parent);
-        self.note_birth(stat.num);
+        self.note_new(spot.entry().parent, stat.num);
         self.entry(spot, stat)
     }
 
@@ -127,6 +131,7 @@ impl Tables {
             again,
             parent,
         } = self.locate_made(caller.node, name)?;
+        self.reserve_events(caller.node)?;
         let spot = self.spot_for(caller.node, name)?;
         let rights = given(caller.owner, mode);
         let stat = course::make_directory(hand, parent, path, again, rights)?;
@@ -152,6 +157,7 @@ impl Tables {
             again,
             parent,
         } = self.locate_made(caller.node, name)?;
+        self.reserve_events(caller.node)?;
         let spot = self.spot_for(caller.node, name)?;
         let stat = course::make_link(hand, parent, target, path, again, caller.owner)?;
         let entry = self.entry_made(spot, &stat);
@@ -186,6 +192,7 @@ impl Tables {
             again,
             parent,
         } = at;
+        self.reserve_events(caller.node)?;
         let spot = self.spot_for(caller.node, name)?;
         let rights = given(caller.owner, mode);
         let stat = course::make_node(hand, parent, path, again, special, rights)?;
@@ -234,9 +241,10 @@ impl Tables {
             place,
             to,
         } = self.plan_link(parent, node, name)?;
+        self.reserve_events(parent)?;
         let spot = self.spot_for(parent, name)?;
         let stat = course::link(hand, from, inode, place, to)?;
-        self.note_names(parent);
+        self.note_linked(parent, inode);
         let entry = self.entry(spot, &stat);
         Ok(Reply::Entry(entry))
     }

@@ -1,14 +1,16 @@
 // Requests that open files.
-ghost use Rattle.std.specs.Prelude.{◌≡◌, ◌<◌, is_some, Ok, OnOk};
+ghost use Rattle.std.specs.Prelude.{◌≡◌, ◌≤◌, ◌<◌, is_some, Ok, OnOk};
 ghost use Rattle.course.specs.Course.{Ran};
 ghost use Rattle.course.specs.Hands.{bound};
 ghost use Rattle.mount_requests.specs.Answers.{IsPlanned};
 ghost use Rattle.mount_requests.specs.Asked.{creation, cut_by, cuts, has_flag, is_exclusive};
 ghost use Rattle.mount_requests.specs.Found.{handle_of};
-ghost use Rattle.mount_requests.specs.Requests.{AnswersCreate, AnswersOpen, OpensAs, born_if};
-ghost use Rattle.mount_requests.specs.Requests.{handle_made, making_open, opened_again, opened_first};
-ghost use Rattle.mount_requests.specs.Requests.{opening, opening_by, with_open};
+ghost use Rattle.mount_requests.specs.Later.{opened_again, opened_first, with_creation};
+ghost use Rattle.mount_requests.specs.Requests.{AnswersCreate, AnswersOpen, OpensAs, handle_made};
+ghost use Rattle.mount_requests.specs.Requests.{making_open, opening, opening_by, with_open};
 ghost use Rattle.mount_requests.specs.Seen.{seen};
+ghost use Rattle.mount_requests.specs.Times.{view_at};
+ghost use Rattle.view_times.specs.Kept.{room_of};
 ghost use Rattle.mount_requests.specs.declared.opening.Opening.TheVariants.{Again, First};
 
 use crate::failure::Failure;
@@ -99,18 +101,6 @@ pub(crate) fn creation(owner: Owner, flags: u32, mode: u32, how: u32) -> Creatio
 }
 
 impl Tables {
-    // The bytes of an object went, where it was cut.
-    fn note_cut(&mut self, inode: Num, cut: Cut)
-        ensures seen { seen self.new ≡ seen self.old }
-        ensures nodes { self.new.nodes ≡ self.old.nodes }
-        ensures files { self.new.files ≡ self.old.files }
-    {
-        match cut {
-            Cut::No => {}
-            Cut::Plain | Cut::Dropping => self.attributes.modify(inode),
-        }
-    }
-
     // Makes room for one open file more.
     fn reserve_file(&mut self) -> Result<(), AllocError>
         ensures seen { seen self.new ≡ seen self.old }
@@ -147,17 +137,19 @@ impl Tables {
     fn open_again<K: Machine>(
         &mut self,
         hand: &mut Hand<K>,
+        node: u64,
         inode: Num,
         handle: u64,
         fd: Fd,
         cut: Cut,
     ) -> Result<Reply, Failure>
         ensures bound { bound hand.new ≡ bound hand.old }
-        ensures answers { OpensAs (seen self.old) (seen self.new) hand.old.pid cut
+        ensures answers { OpensAs (seen self.old) (seen self.new) hand.old.pid node cut
             (Ok (Again inode handle fd)) hand.old.shown hand.new.shown result }
     {
+        self.reserve_events(node)?;
         cut_if(hand, fd, cut)?;
-        self.note_cut(inode, cut);
+        self.note_cut(node, inode, cut);
         self.count_open(handle);
         Ok(Reply::Opened(opened(handle)))
     }
@@ -166,36 +158,42 @@ impl Tables {
     fn open_first<K: Machine>(
         &mut self,
         hand: &mut Hand<K>,
+        node: u64,
         located: Located,
         inode: Num,
         cut: Cut,
     ) -> Result<Reply, Failure>
         ensures bound { bound hand.new ≡ bound hand.old }
-        ensures answers { OpensAs (seen self.old) (seen self.new) hand.old.pid cut
+        ensures answers { OpensAs (seen self.old) (seen self.new) hand.old.pid node cut
             (Ok (First located.view located.path inode)) hand.old.shown hand.new.shown result }
     {
         let Located { view, path } = located;
         self.reserve_file()?;
+        self.reserve_events(node)?;
         let fd = open_cut(hand, path, inode, cut)?;
-        self.note_cut(inode, cut);
+        self.note_cut(node, inode, cut);
         let handle = self.keep_open(view, inode, hand.pid(), fd);
         Ok(Reply::Opened(opened(handle)))
     }
 
+    // The file of a node is opened.
     fn open_as<K: Machine>(
         &mut self,
         hand: &mut Hand<K>,
+        node: u64,
         opening: Opening,
         cut: Cut,
     ) -> Result<Reply, Failure>
         ensures bound { bound hand.new ≡ bound hand.old }
-        ensures answers { OpensAs (seen self.old) (seen self.new) hand.old.pid cut (Ok opening)
+        ensures answers { OpensAs (seen self.old) (seen self.new) hand.old.pid node cut (Ok opening)
             hand.old.shown hand.new.shown result }
     {
         match opening {
-            Opening::Again { inode, handle, fd } => self.open_again(hand, inode, handle, fd, cut),
+            Opening::Again { inode, handle, fd } => {
+                self.open_again(hand, node, inode, handle, fd, cut)
+            }
             Opening::First { view, path, inode } => {
-                self.open_first(hand, Located { view, path }, inode, cut)
+                self.open_first(hand, node, Located { view, path }, inode, cut)
             }
         }
     }
@@ -245,7 +243,7 @@ impl Tables {
             hand.old.shown hand.new.shown result }
     {
         let opening = self.plan_opening(hand.pid(), node)?;
-        self.open_as(hand, opening, cut_by(flags, how))
+        self.open_as(hand, node, opening, cut_by(flags, how))
     }
 
     // Whether a file is open in a view.
@@ -301,19 +299,17 @@ impl Tables {
 
     // What is kept of a file that was made, or of one that was there and may be cut.
     fn note_opened(&mut self, node: u64, made: &Made, cut: Cut)
-        requires { 0 < self.old.nodes.birth_room }
-        ensures seen { seen self.new ≡ record (seen self.old) {
-          nodes = born_if made.now.is_new self.old.nodes.table made.now.stat.num;
-        } }
+        requires birth { 0 < self.old.nodes.birth_room }
+        requires events { 2 ≤ room_of self.old.times (view_at (seen self.old) node) }
+        ensures seen { seen self.new
+            ≡ with_creation made.now.is_new (seen self.old) node cut made.now.stat.num }
         ensures room { self.new.nodes.room ≡ self.old.nodes.room }
         ensures files { self.new.files ≡ self.old.files }
     {
         if made.is_new {
-            self.attributes.create(made.stat.num);
-            self.note_names(node);
-            self.note_birth(made.stat.num);
+            self.note_new(node, made.stat.num);
         } else {
-            self.note_cut(made.stat.num, cut);
+            self.note_cut(node, made.stat.num, cut);
         }
     }
 
@@ -332,6 +328,7 @@ impl Tables {
         let wanted = self.locate_made(caller.node, name)?;
         let view = wanted.view;
         self.reserve_file()?;
+        self.reserve_events(caller.node)?;
         let spot = self.spot_for(caller.node, name)?;
         let made = self.make_open(hand, wanted, creation)?;
         self.note_opened(caller.node, &made, creation.cut);

@@ -254,18 +254,17 @@ impl Tables {
         })
     }
 
-    // A name of a directory, with room for its node, for an object that is made, and for what is kept
-    // of that.
+    // A name of a directory, with room for its node, and for an object that is made.
     pub(crate) fn spot_for(&mut self, node: u64, name: &Bytes) -> Result<Spot, AllocError>
         ensures entry { IfOk result (λ spot. spot ≡ named node name.now) }
         ensures room { OnOk result (0 < self.new.nodes.room) }
         ensures birth { OnOk result (0 < self.new.nodes.birth_room) }
         ensures seen { seen self.new ≡ seen self.old }
         ensures files { self.new.files ≡ self.old.files }
+        ensures times { self.new.times ≡ self.old.times }
     {
         let spot = Spot::new(self.heap, node, name.as_slice())?;
         self.nodes.reserve()?;
-        self.attributes.reserve()?;
         Ok(spot)
     }
 }

@@ -89,7 +89,7 @@ impl Tables {
                 write_flags,
                 open_flags,
                 bytes,
-            } => self.write(hand, handle, offset, write_flags, open_flags, bytes),
+            } => self.write(hand, node, handle, offset, write_flags, open_flags, bytes),
             Operation::Lseek {
                 handle,
                 offset,

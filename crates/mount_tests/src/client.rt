@@ -1,7 +1,7 @@
 // Requests on a server, by lines of words: a verb, a path, and what else the verb wants.
 use crate::texts::{Text, owned, told};
 use fuse::bits::{MODE_PIPE, OPEN_APPEND, OPEN_EXCLUSIVE, OPEN_TRUNCATE, RENAME_NO_REPLACE};
-use fuse::{Changes, Operation, Reply, Request, Whence};
+use fuse::{Changes, Operation, Reply, Request, Time, Whence};
 use heap::Heap;
 use ids::{Bytes, Limits};
 use machine::Machine;
@@ -16,6 +16,12 @@ const NONE: u64 = u64::MAX;
 
 // To read and write.
 const BOTH: u32 = 2;
+
+// When each request is served.
+const NOW: Time = Time {
+    seconds: 1,
+    nanoseconds: 0,
+};
 
 // A server, and the numbers of the file and of the directory that were opened last.
 pub(crate) struct Client<K: Machine> {
@@ -92,14 +98,15 @@ fn line_of(text: &str) -> Line<'_> {
 
 fn serve<K: Machine>(client: &mut Client<K>, asked: Asked) -> Option<Reply> {
     let Asked { node, operation } = asked;
-    client.server.serve(Request {
+    let request = Request {
         unique: 1,
         node,
         uid: 0,
         gid: 0,
         pid: 1,
         operation,
-    })
+    };
+    client.server.serve(request, NOW)
 }
 
 // The node that a look-up has found, or the number of none.

@@ -32,13 +32,14 @@ use Rattle.mount_tables.specs.declared.views.State.{State}
 use Rattle.mount_tables.specs.declared.views.State.TheVariants as state
 use Rattle.mount_requests.specs.Failures.{error, failure_of}
 use Rattle.mount_requests.specs.Found.{file_at, handle_at, stepper_at}
+use Rattle.mount_requests.specs.Later.{with_aborted}
 use Rattle.mount_requests.specs.Requests.{IsAnswered, Tells}
 use Rattle.mount_requests.specs.Seen.{Seen}
 use Rattle.mount_requests.specs.declared.failure.Failure.{Failure}
 use Rattle.mount_requests.specs.declared.failure.Failure.TheVariants as failure
 use Rattle.mount_requests.specs.declared.requests.Caller.{Caller}
 use Rattle.mount_requests.specs.declared.tables.Stepper.{Stepper}
-use Rattle.mounted.specs.Controls.{ServesControl, ServesTransactions, with_aborted}
+use Rattle.mounted.specs.Controls.{ServesControl, ServesTransactions}
 
 -- ---- the plain tree
 

@@ -213,7 +213,7 @@ impl<K: Machine> Serving<K> {
             Ok(reply) => reply,
             Err(Failure::Error(errno)) => Reply::Error(errno),
             Err(Failure::Aborted(why)) => {
-                self.tables.views.abort(view, why);
+                self.tables.note_abort(view, why);
                 Reply::Error(Errno::ECANCELED)
             }
         }
