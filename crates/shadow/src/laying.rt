@@ -12,15 +12,13 @@ ghost use Rattle.store.specs.Numbers.{present};
 ghost use Rattle.store.specs.Shown.{inodes};
 ghost use Rattle.store.specs.declared.Object.TheVariants.{Pipe as A_pipe};
 ghost use Rattle.shadow.specs.Laid.{IsPassedOver, IsReadyPipe, IsReopened, IsWrittenOver};
-ghost use Rattle.shadow.specs.declared.opening.Opening.TheVariants.{New};
-ghost use Rattle.shadow.specs.Patches.{is_new, kept_at, opening_at};
+ghost use Rattle.notes.specs.declared.opening.Opening.TheVariants.{New};
+ghost use Rattle.notes.specs.Patches.{is_new, kept_at, opening_at};
 
-use crate::change::{Contents, InodeChange};
-use crate::inodes::Inodes;
-use crate::opening::{Opening, Openings};
 use file_shadow::FileShadow;
 use heap::Heap;
 use ids::{Num, PIPE_CAPACITY};
+use notes::{Contents, InodeChange, Inodes, Opening, Openings};
 use objects::{Description, FileData};
 use pipe_shadow::PipeShadow;
 use store::{Object, OpenFile, OpenPipe, Opened, Store};

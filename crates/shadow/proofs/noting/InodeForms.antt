@@ -6,14 +6,14 @@ use Rattle.model.specs.State.{Kind, A_file, A_directory, A_pipe, Kernel, Inode, 
 use Rattle.model.specs.Changes.{Edit}
 use Rattle.call_laws.specs.Fits.{Fits}
 use Rattle.freeing_laws.specs.Counts.{times}
-use Rattle.shadow.specs.declared.change.Contents.{Contents}
-use Rattle.shadow.specs.declared.change.Contents.TheVariants.{Same, Names, Bytes, Pipe as Piped}
-use Rattle.shadow.specs.declared.change.Made.{Made as What}
-use Rattle.shadow.specs.declared.change.Made.TheVariants.{Directory as Dir_made, File as File_made, Pipe as Pipe_made}
+use Rattle.notes.specs.declared.change.Contents.{Contents}
+use Rattle.notes.specs.declared.change.Contents.TheVariants.{Same, Names, Bytes, Pipe as Piped}
+use Rattle.notes.specs.declared.change.Made.{Made as What}
+use Rattle.notes.specs.declared.change.Made.TheVariants.{Directory as Dir_made, File as File_made, Pipe as Pipe_made}
 use Rattle.shadow.specs.Agrees.{IsOver}
-use Rattle.shadow.specs.Patches.{of_pipe, Form, no_change, of_names, of_bytes, form_of, numbers_in, patched}
-use Rattle.shadow.specs.Steps.{piped, AreApart, IsOne, filed, form_after, listed, made_after, new_form, new_in, numbers_kept, parents_in}
-use Rattle.shadow.proofs.noting.EditCases.{by_one}
+use Rattle.notes.specs.Patches.{of_pipe, Form, no_change, of_names, of_bytes, form_of, numbers_in, patched}
+use Rattle.notes.specs.Steps.{piped, AreApart, IsOne, filed, form_after, listed, made_after, new_form, new_in, numbers_kept, parents_in}
+use Rattle.notes.proofs.Laws.{by_one}
 
 -- a directory's changes stay a directory's, and a file's a file's
 listed_over : (c : Contents) (o : Option Inode) (made : Option What) → mapped kind (patched c o) ≡ Some A_directory → IsOver (mapped kind o) made (form_of c) → IsOver (mapped kind o) made (listed (form_of c))
