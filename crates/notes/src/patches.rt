@@ -395,11 +395,7 @@ impl Patches {
     ///
     /// `AllocError` where memory is refused, or where a count of names would not fit; then all shows as
     /// before.
-    pub fn note(
-        &mut self,
-        chosen: &[Num],
-        mut edits: Vec<Edit, Heap>,
-    ) -> Result<(), AllocError>
+    pub fn note(&mut self, chosen: &[Num], mut edits: Vec<Edit, Heap>) -> Result<(), AllocError>
         requires kinds { CanEdit edits.items }
         requires count { length chosen.now ≡ sum_by news edits.items }
         requires apart { AllByRecursion (AreApart chosen.now) edits.items }
