@@ -78,7 +78,7 @@ static HEADS: [(&[u8], ScriptFault); 31] = [
 ];
 
 // Second lines of texts that are no scripts.
-static LINES: [(&[u8], ScriptFault); 80] = [
+static LINES: [(&[u8], ScriptFault); 96] = [
     (b" ", ScriptFault::ProcessExpected(2)),
     (b"0", ScriptFault::ProcessExpected(2)),
     (b"0 stat /", ScriptFault::ProcessExpected(2)),
@@ -171,6 +171,22 @@ static LINES: [(&[u8], ScriptFault); 80] = [
     (b"1 truncate /a -1", ScriptFault::BadArguments(2)),
     (b"1 truncate /a 4294967296", ScriptFault::BadArguments(2)),
     (b"1 truncate /a\\ 0", ScriptFault::BadArguments(2)),
+    (b"1 symlink  /l", ScriptFault::BadArguments(2)),
+    (b"1 symlink a b /l", ScriptFault::BadArguments(2)),
+    (b"1 symlink a\\n /l", ScriptFault::BadArguments(2)),
+    (b"1 symlink \xc3\xa4 /l", ScriptFault::BadArguments(2)),
+    (b"1 readlink", ScriptFault::BadArguments(2)),
+    (b"1 lstat ", ScriptFault::BadArguments(2)),
+    (b"1 mknod /f fifo ", ScriptFault::BadArguments(2)),
+    (b"1 mknod /f Fifo", ScriptFault::BadArguments(2)),
+    (b"1 chmod /a 0644 ", ScriptFault::BadArguments(2)),
+    (b"1 chmod /a\\ 644", ScriptFault::BadArguments(2)),
+    (b"1 chmod /a 6 4 4", ScriptFault::BadArguments(2)),
+    (b"1 fchmod 0 -644", ScriptFault::BadArguments(2)),
+    (b"1 chown /a - ", ScriptFault::BadArguments(2)),
+    (b"1 chown \xff 0 0", ScriptFault::BadArguments(2)),
+    (b"1 fchown 0 0 0x0", ScriptFault::BadArguments(2)),
+    (b"1 fchown 0 - --", ScriptFault::BadArguments(2)),
 ];
 
 // A text whose second line is this.
@@ -240,6 +256,15 @@ static ALL: &str = "priorities 0 7
 1 mkdir /c
 1 rmdir /c
 1 list /
+1 symlink \\x20\\x5c /l
+1 readlink /l
+1 lstat /l
+1 mknod /f fifo
+1 mknod /s socket
+1 chmod /a 7777
+1 chown /a - 4294967295
+1 fchmod 0 0
+1 fchown 0 1 -
 1 dup 0
 1 dup2 0 1
 1 pipe

@@ -13,3 +13,4 @@ mod First
 mod Leaving
 mod Asking
 mod Outcomes
+mod Apart

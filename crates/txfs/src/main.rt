@@ -83,6 +83,7 @@ fn run(rt: &HostRuntime) -> Ending {
     let mut channel = Streams {
         input: rt.stdin(),
         output: rt.stdout(),
+        clock: rt,
     };
     match serve::<Kernel, _>(heap, limits, &mut channel) {
         Ok(session::Ending::Unmounted) => Ending::Unmounted,
