@@ -10,9 +10,7 @@ use crate::own::{free_from, pipe_in, pipes, slot, two_of};
 use heap::Heap;
 use ids::{Answer, Edit, Errno, Fd, MAX_PROCESSES, NewOwner, Permissions, Pid, Refusal};
 use look::Look;
-use path_calls::{
-    Change, changed_by, refuse_if, set_owner, set_permissions, status, unchanged,
-};
+use path_calls::{Change, changed_by, refuse_if, set_owner, set_permissions, status, unchanged};
 use walk::Reads;
 
 pub(crate) fn close<L: Look>(heap: Heap, look: &L, pid: Pid, fd: Fd) -> Result<Change, Refusal>

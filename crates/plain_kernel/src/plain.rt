@@ -11,7 +11,9 @@ ghost use Rattle.plain_kernel.specs.Counts.{given_by};
 
 use crate::descriptions::Descriptions;
 use crate::holders::Holders;
-use crate::inode::{given_in, is_empty_in, kind_in, names_in, pipe_in, read_in, size_in, target_in};
+use crate::inode::{
+    given_in, is_empty_in, kind_in, names_in, pipe_in, read_in, size_in, target_in,
+};
 use crate::inodes::Inodes;
 use crate::table::Table;
 use crate::tree::Tree;
