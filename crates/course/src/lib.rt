@@ -28,4 +28,4 @@ pub use objects::{Object, find, list_at};
 pub use place::Place;
 pub use rights::permissions_in;
 pub use transactions::{begin, end, fork, give_up, look_nowhere};
-pub use updates::{Paths, Update, drop_if, update};
+pub use updates::{Paths, Update, apply_update, drop_if};

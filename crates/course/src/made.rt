@@ -138,7 +138,7 @@ pub fn create_cut<K: Machine>(
         (creating_in hand.old.pid path again exclusive cut given)) result hand.new.shown }
 {
     let home = look_at(hand, parent)?;
-    let rights = rights_in(false, home.rights, given);
+    let rights = rights_in(false, &home.rights, given);
     create_cut_at(hand, path, again, exclusive, cut, rights)
 }
 
@@ -202,7 +202,7 @@ pub fn make_node<K: Machine>(
         result hand.new.shown }
 {
     let home = look_at(hand, parent)?;
-    let rights = rights_in(false, home.rights, given);
+    let rights = rights_in(false, &home.rights, given);
     make_special(hand, path, again, special, rights)
 }
 

@@ -72,7 +72,7 @@ pub fn make_directory<K: Machine>(
         result hand.new.shown }
 {
     let home = look_at(hand, parent)?;
-    let rights = rights_in(true, home.rights, given);
+    let rights = rights_in(true, &home.rights, given);
     make_entitled(hand, Call::Mkdir(path), again, rights)
 }
 
@@ -109,6 +109,6 @@ pub fn make_link<K: Machine>(
         result hand.new.shown }
 {
     let home = look_at(hand, parent)?;
-    let owner = owner_in(home.rights, owner);
+    let owner = owner_in(&home.rights, owner);
     make_owned(hand, Call::Symlink(target, path), again, owner)
 }

@@ -41,8 +41,8 @@ pub(crate) fn both_of(owner: Owner) -> NewOwner
 }
 
 // Whether what is made in a directory gets its group: set-group-ID is among its permissions.
-fn gives_group(home: Rights) -> bool
-    ensures { result ≡ gives_group home }
+fn gives_group(home: &Rights) -> bool
+    ensures { result ≡ gives_group home.now }
 {
     home.permissions.bits() & 0o2000 == 0o2000
 }
@@ -56,8 +56,8 @@ fn with_set_group(permissions: Permissions) -> Permissions
 }
 
 // Whose something is that is made in such a directory by this owner.
-pub(crate) fn owner_in(home: Rights, owner: Owner) -> Owner
-    ensures { result ≡ owner_in home owner }
+pub(crate) fn owner_in(home: &Rights, owner: Owner) -> Owner
+    ensures { result ≡ owner_in home.now owner }
 {
     if gives_group(home) {
         Owner {
@@ -70,8 +70,8 @@ pub(crate) fn owner_in(home: Rights, owner: Owner) -> Owner
 }
 
 // What is permitted there.
-fn permissions_below(is_directory: bool, home: Rights, given: Permissions) -> Permissions
-    ensures { result ≡ permissions_below is_directory home given }
+fn permissions_below(is_directory: bool, home: &Rights, given: Permissions) -> Permissions
+    ensures { result ≡ permissions_below is_directory home.now given }
 {
     if is_directory && gives_group(home) {
         with_set_group(given)
@@ -81,8 +81,8 @@ fn permissions_below(is_directory: bool, home: Rights, given: Permissions) -> Pe
 }
 
 // Both.
-pub(crate) fn rights_in(is_directory: bool, home: Rights, given: Rights) -> Rights
-    ensures { result ≡ rights_in is_directory home given }
+pub(crate) fn rights_in(is_directory: bool, home: &Rights, given: Rights) -> Rights
+    ensures { result ≡ rights_in is_directory home.now given }
 {
     Rights {
         permissions: permissions_below(is_directory, home, given.permissions),

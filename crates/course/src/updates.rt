@@ -213,7 +213,7 @@ fn update_by<K: Machine>(
 /// tells what it is like then: by its descriptor, else by this path, which is told once for each use. It
 /// is `Stale`, and nothing is set, where there is no descriptor and the path gives another object, or
 /// none. What was set before another step is refused stays.
-pub fn update<K: Machine>(
+pub fn apply_update<K: Machine>(
     hand: &mut Hand<K>,
     object: Object,
     paths: Option<Paths>,

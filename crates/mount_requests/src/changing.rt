@@ -9,7 +9,7 @@ ghost use Rattle.mount_requests.specs.Seen.{seen};
 
 use crate::failure::Failure;
 use crate::tables::Tables;
-use course::{Fault, Hand, Object, Paths, Update, find, permissions_in, update};
+use course::{Fault, Hand, Object, Paths, Update, apply_update, find, permissions_in};
 use fuse::{Changes, Errno, Reply};
 use ids::{NewOwner, Permissions, Pid, Stat};
 use machine::Machine;
@@ -91,7 +91,7 @@ fn set<K: Machine>(hand: &mut Hand<K>, setting: Setting) -> Result<Stat, Fault>
         paths,
     } = setting;
     match wanted {
-        Some(wanted) => update(hand, object, paths, wanted),
+        Some(wanted) => apply_update(hand, object, paths, wanted),
         None => find(hand, object),
     }
 }

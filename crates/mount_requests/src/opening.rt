@@ -90,7 +90,7 @@ fn is_exclusive(flags: u32) -> bool
 }
 
 // How a file is made by these flags and this mode.
-pub(crate) fn creation(owner: Owner, flags: u32, mode: u32, how: u32) -> Creation
+pub(crate) fn creation_by(owner: Owner, flags: u32, mode: u32, how: u32) -> Creation
     ensures { result ≡ creation owner flags mode how }
 {
     Creation {

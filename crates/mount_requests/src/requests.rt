@@ -5,7 +5,7 @@ ghost use Rattle.mount_requests.specs.Requests.{IsAnswered};
 ghost use Rattle.mount_requests.specs.Seen.{seen};
 
 use crate::failure::Failure;
-use crate::opening::creation;
+use crate::opening::creation_by;
 use crate::reading::Wanted;
 use crate::tables::Tables;
 use course::Hand;
@@ -64,7 +64,7 @@ impl Tables {
                 mode,
                 how,
             } => {
-                let creation = creation(caller.owner, flags, mode, how);
+                let creation = creation_by(caller.owner, flags, mode, how);
                 self.create(hand, caller, &name, creation)
             }
             Operation::Link { node: of, new_name } => self.link(hand, node, of, &new_name),

@@ -33,8 +33,8 @@ fn refuse<C: Channel>(channel: &mut C, message: &mut Message, answer: Option<(u6
     }
 }
 
-// Serves the request that the bytes are, at the time of the channel, and writes its reply. What is no request is answered by its
-// fault.
+// Serves the request that the bytes are, at the time of the channel, and writes its reply. What is no
+// request is answered by its fault.
 pub(crate) fn handle<S: Service, C: Channel>(
     heap: Heap,
     server: &mut S,

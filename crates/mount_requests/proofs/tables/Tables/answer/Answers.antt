@@ -31,7 +31,7 @@ returns-in-MkDir-clause-answers g c = answers (seen c.args.self.now) (seen c.mak
 
 pub returns-in-Create-clause-answers : goal.returns-in-Create-clause-answers
 returns-in-Create-clause-answers g c =
-    let h = rw c.creation-creation.ensures at c.create.ensures.answers in
+    let h = rw c.creation_by-creation.ensures at c.create.ensures.answers in
     answers (seen c.args.self.now) (seen c.create.new.self) c.args.hand.now.pid c.args.caller _ _ _ c.in-Create.is h
 
 pub returns-in-Link-clause-answers : goal.returns-in-Link-clause-answers
