@@ -264,13 +264,7 @@ impl Patches {
     }
 
     // A new object with its name.
-    fn make(
-        &mut self,
-        what: NewObject,
-        parent: Num,
-        name: Name,
-        num: Num,
-    ) -> Result<(), AllocError>
+    fn make(&mut self, what: NewObject, parent: Num, name: Name, num: Num) -> Result<(), AllocError>
         requires { num ≢ parent }
         ensures ok { OnOk result (TakesIn (num ∷ []) (making what parent name) self.old self.new) }
         ensures err { OnErr result (SamePatches self.old self.new) }

@@ -278,7 +278,6 @@ fixed_claims fixed d n x (Room r) = refl
 fixed_claims fixed d n x (Number m) = (let one : claimed_by_one (Number m) (n ∷ []) (Make_fixed d x fixed 0) ≡ 0 + cond (n == m) 1 0 = refl in let same : number_as false n (Number m) ≡ cond (n == m) 1 0 = and_true (n == m) in let none : room_in d (Number m) ≡ 0 = refl in omega arith)
 fixed_claims fixed d n x (New_directory m) = (let none : number_as false n (New_directory m) ≡ 0 = and_false (n == m) in let zero : claimed_by_one (New_directory m) (n ∷ []) (Make_fixed d x fixed 0) ≡ 0 = refl in let room : room_in d (New_directory m) ≡ 0 = refl in omega arith)
 
-
 -- what is claimed is there
 pub covered : (ps : Processes) (s : Numbers) (v : Committed) → committed_of ps s ≡ v → (c : Claim) (some : ℕ) → some ≤ reserved v c → 0 < some → 0 < kept_in s c
 covered ps s v is c some covers one = (let same : kept_in s c ≡ reserved v c = kept_of ps ps s v is c in omega (arith, covers, one))

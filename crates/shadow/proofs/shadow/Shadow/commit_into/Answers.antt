@@ -21,8 +21,11 @@ lay_openings-requires c =
     (has_inodes
     (can_commit c.stable.invariant c.stable.view_is c.self.invariant c.self.view_is
     c.patches.view_is c.requires.fits c.requires.covers)
-    (record { root = c.lay_inodes_with_rights.ensures.root; rights = c.lay_inodes_with_rights.ensures.rights;
-    places = c.lay_inodes_with_rights.ensures.places })).coming
+    (record {
+      root = c.lay_inodes_with_rights.ensures.root;
+      rights = c.lay_inodes_with_rights.ensures.rights;
+      places = c.lay_inodes_with_rights.ensures.places;
+    })).coming
 
 pub lay_slots-requires : goal.lay_slots-requires
 lay_slots-requires c =
@@ -36,8 +39,11 @@ close_former-requires c = (
   (has_all
       (can_commit c.stable.invariant c.stable.view_is c.self.invariant c.self.view_is
       c.patches.view_is c.requires.fits c.requires.covers)
-      (record { root = c.lay_inodes_with_rights.ensures.root; rights = c.lay_inodes_with_rights.ensures.rights;
-    places = c.lay_inodes_with_rights.ensures.places })
+      (record {
+        root = c.lay_inodes_with_rights.ensures.root;
+        rights = c.lay_inodes_with_rights.ensures.rights;
+        places = c.lay_inodes_with_rights.ensures.places;
+      })
       c.lay_openings.ensures c.lay_slots.ensures).holds,
 )
 
@@ -47,8 +53,11 @@ close_new-requires c = (
   holds_first
       (can_commit c.stable.invariant c.stable.view_is c.self.invariant c.self.view_is
       c.patches.view_is c.requires.fits c.requires.covers)
-      (record { root = c.lay_inodes_with_rights.ensures.root; rights = c.lay_inodes_with_rights.ensures.rights;
-    places = c.lay_inodes_with_rights.ensures.places })
+      (record {
+        root = c.lay_inodes_with_rights.ensures.root;
+        rights = c.lay_inodes_with_rights.ensures.rights;
+        places = c.lay_inodes_with_rights.ensures.places;
+      })
       c.lay_openings.ensures c.lay_slots.ensures c.close_former.ensures,
 )
 
@@ -58,8 +67,11 @@ free_all-requires c = (
   holds_second
       (can_commit c.stable.invariant c.stable.view_is c.self.invariant c.self.view_is
       c.patches.view_is c.requires.fits c.requires.covers)
-      (record { root = c.lay_inodes_with_rights.ensures.root; rights = c.lay_inodes_with_rights.ensures.rights;
-    places = c.lay_inodes_with_rights.ensures.places })
+      (record {
+        root = c.lay_inodes_with_rights.ensures.root;
+        rights = c.lay_inodes_with_rights.ensures.rights;
+        places = c.lay_inodes_with_rights.ensures.places;
+      })
       c.lay_openings.ensures c.lay_slots.ensures c.close_former.ensures c.close_new.ensures,
 )
 
@@ -68,8 +80,11 @@ invariant_of-stable c =
     is_sound
     (can_commit c.stable.invariant c.stable.view_is c.self.invariant c.self.view_is
     c.patches.view_is c.requires.fits c.requires.covers)
-    (record { root = c.lay_inodes_with_rights.ensures.root; rights = c.lay_inodes_with_rights.ensures.rights;
-    places = c.lay_inodes_with_rights.ensures.places })
+    (record {
+      root = c.lay_inodes_with_rights.ensures.root;
+      rights = c.lay_inodes_with_rights.ensures.rights;
+      places = c.lay_inodes_with_rights.ensures.places;
+    })
     c.lay_openings.ensures c.lay_slots.ensures
     c.close_former.ensures c.close_new.ensures c.free_all.ensures
 
@@ -78,8 +93,11 @@ returns-clause-state c =
     has_state
     (can_commit c.stable.invariant c.stable.view_is c.self.invariant c.self.view_is
     c.patches.view_is c.requires.fits c.requires.covers)
-    (record { root = c.lay_inodes_with_rights.ensures.root; rights = c.lay_inodes_with_rights.ensures.rights;
-    places = c.lay_inodes_with_rights.ensures.places })
+    (record {
+      root = c.lay_inodes_with_rights.ensures.root;
+      rights = c.lay_inodes_with_rights.ensures.rights;
+      places = c.lay_inodes_with_rights.ensures.places;
+    })
     c.lay_openings.ensures c.lay_slots.ensures
     c.close_former.ensures c.close_new.ensures c.free_all.ensures
     c.stable.view_is
@@ -89,8 +107,11 @@ returns-clause-kept c =
     has_kept
     (can_commit c.stable.invariant c.stable.view_is c.self.invariant c.self.view_is
     c.patches.view_is c.requires.fits c.requires.covers)
-    (record { root = c.lay_inodes_with_rights.ensures.root; rights = c.lay_inodes_with_rights.ensures.rights;
-    places = c.lay_inodes_with_rights.ensures.places })
+    (record {
+      root = c.lay_inodes_with_rights.ensures.root;
+      rights = c.lay_inodes_with_rights.ensures.rights;
+      places = c.lay_inodes_with_rights.ensures.places;
+    })
     c.lay_openings.ensures c.lay_slots.ensures
     c.close_former.ensures c.close_new.ensures c.free_all.ensures
     c.stable.view_is
