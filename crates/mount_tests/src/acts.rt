@@ -4,9 +4,9 @@ ghost use Rattle.std.specs.Prelude.{◌≡◌};
 
 use crate::texts::{Text, owned};
 use course::{
-    Again, Cut, Fault, Hand, Made, Object, Paths, Place, Twice, Update, append, apply_update, begin,
-    close, close_spare, create_cut, cut_if, drop_if, end, find, fork, give_up, link, list, list_at,
-    look_nowhere, look_up, make_directory, make_link, make_node, move_name, open_cut,
+    Again, Cut, Fault, Hand, Made, Object, Paths, Place, Twice, Update, append, apply_update,
+    begin, close, close_spare, create_cut, cut_if, drop_if, end, find, fork, give_up, link, list,
+    list_at, look_nowhere, look_up, make_directory, make_link, make_node, move_name, open_cut,
     permissions_in, read, read_link, remove_directory, stat_file, unlink, write,
 };
 use heap::Heap;
@@ -317,9 +317,17 @@ fn on_object<K: Machine>(
             read_link(hand, heap, twice(rt, heap, "/a"), inode),
         ),
         Act::Resize => told(rt, heap, seen(apply_update(hand, by_path, paths, length()))),
-        Act::ResizeOpen => told(rt, heap, seen(apply_update(hand, by_descriptor, paths, length()))),
+        Act::ResizeOpen => told(
+            rt,
+            heap,
+            seen(apply_update(hand, by_descriptor, paths, length())),
+        ),
         Act::Update => told(rt, heap, seen(apply_update(hand, by_path, paths, all()))),
-        _ => told(rt, heap, seen(apply_update(hand, by_descriptor, paths, all()))),
+        _ => told(
+            rt,
+            heap,
+            seen(apply_update(hand, by_descriptor, paths, all())),
+        ),
     }
 }
 

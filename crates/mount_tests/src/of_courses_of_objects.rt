@@ -59,7 +59,7 @@ static OBJECTS: [Course; 15] = [
         whole: "1 lstat /a
 1 readlink /a",
         told: None,
-        refused: &["1 lstat /a"],
+        refused: &[],
     },
     Course {
         act: Act::ReadLink,
