@@ -201,7 +201,10 @@ static OPERATIONS: [(&str, &str); 51] = [
     ),
     ("readlink /a", "Call(Readlink(Bytes { bytes: [47, 97] }))"),
     ("lstat /a", "Call(Lstat(Bytes { bytes: [47, 97] }))"),
-    ("mknod /a fifo", "Call(Mknod(Bytes { bytes: [47, 97] }, Fifo))"),
+    (
+        "mknod /a fifo",
+        "Call(Mknod(Bytes { bytes: [47, 97] }, Fifo))",
+    ),
     (
         "mknod \\e socket",
         "Call(Mknod(Bytes { bytes: [] }, Socket))",

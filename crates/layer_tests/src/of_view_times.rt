@@ -93,7 +93,10 @@ fn ends_and_what_goes_take_no_memory(rt: HostRuntime) {
         modified(&aborted, VIEW, 9),
     ];
     committed.free(Num(9));
-    let freed = [modified(&committed, PLAIN, 9), modified(&committed, PLAIN, 8)];
+    let freed = [
+        modified(&committed, PLAIN, 9),
+        modified(&committed, PLAIN, 8),
+    ];
     assert_eq!(rt; heap.made(), 0);
     heap.refuse(0);
     drop(committed);
