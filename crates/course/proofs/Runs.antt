@@ -40,6 +40,10 @@ gives m g h e = goes m (λ y. Give (g y)) h (record { is = (e, refl) })
 pub by_pid : {A : Type 0} (c : ℕ → Course A) {p q : ℕ} {old new : Shown} {outcome : A} → p ≡ q → Ran old (c p) outcome new → Ran old (c q) outcome new
 by_pid c {old = old} {new = new} {outcome = outcome} e h = subst (λ n. Ran old (c n) outcome new) e h
 
+-- a course that gives something rights that go by another name too
+pub by_rights : {A : Type 0} (c : Rights → Course A) {p q : Rights} {old new : Shown} {outcome : A} → p ≡ q → Ran old (c p) outcome new → Ran old (c q) outcome new
+by_rights c {old = old} {new = new} {outcome = outcome} e h = subst (λ r. Ran old (c r) outcome new) e h
+
 -- a course that fails, where what comes behind it needs its success
 pub stops : {A B : Type 0} (m : Course (Result A Fault)) (f : A → Course (Result B Fault)) {old new : Shown} {e : Fault} (r : Result B Fault) → IsErrAnd r (λ y. y ≡ e) → Ran old m (Err e) new → Ran old (m >>= on_ok f) r new
 stops m f (Err y) is h = goes m (on_ok f) h (record { is = (ap Err is, refl) })

@@ -96,7 +96,7 @@ pub(crate) static SYMBOLIC_LINKS: [Row; 9] = [
 3 P1 symlink ///./ /c -> ok
 4 P1 symlink /a /d -> ok
 5 P1 symlink \\xff\\x01\\x5ce /e -> ok
-6 P1 symlink \\x2d> /f -> ok
+6 P1 symlink -> /f -> ok
 7 P1 readlink /a -> 1 \\x20
 8 P1 readlink /b -> 2 ..
 9 P1 readlink /c -> 5 ///./

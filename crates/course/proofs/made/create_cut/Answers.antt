@@ -2,7 +2,7 @@ use Rattle.std.proofs.Common.{ℕ, false, ap}
 use Rattle.machine.specs.Shown.{Shown}
 use Rattle.course.specs.Courses.{creating_cut, looking_at}
 use Rattle.course.specs.Rights.{rights_in}
-use Rattle.course.proofs.Runs.{by_pid, goes_on, stops}
+use Rattle.course.proofs.Runs.{by_pid, by_rights, goes_on, stops}
 use Rattle.course.proofs.made.create_cut.Goals as goal
 
 pub returns-in_err-home-clause-ran : goal.returns-in_err-home-clause-ran
@@ -10,5 +10,5 @@ returns-in_err-home-clause-ran g c = stops (looking_at c.args.hand.now.pid c.arg
 
 pub returns-clause-ran : goal.returns-clause-ran
 returns-clause-ran g c =
-    let h = rw c.rights_in-rights.ensures at c.create_cut_at.ensures.ran in
+    let h = by_rights (creating_cut _ c.args.path c.args.again c.args.exclusive c.args.cut) c.rights_in-rights.ensures c.create_cut_at.ensures.ran in
     goes_on (looking_at c.args.hand.now.pid c.args.parent) _ c.in_ok-home.ensures.ran (by_pid (λ p. creating_cut p c.args.path c.args.again c.args.exclusive c.args.cut (rights_in false c.in_ok-home.home.rights c.args.given)) (ap (λ (b : ℕ × Shown). b.0) c.in_ok-home.ensures.bound) h)
