@@ -327,11 +327,12 @@ impl Tables {
     {
         let wanted = self.locate_made(caller.node, name)?;
         let view = wanted.view;
+        let cut = creation.cut;
         self.reserve_file()?;
         self.reserve_events(caller.node)?;
         let spot = self.spot_for(caller.node, name)?;
         let made = self.make_open(hand, wanted, creation)?;
-        self.note_opened(caller.node, &made, creation.cut);
+        self.note_opened(caller.node, &made, cut);
         let handle = self.keep_made(view, hand.pid(), &made);
         let entry = self.entry(spot, &made.stat);
         Ok(Reply::Created {
