@@ -21,10 +21,11 @@ use Rattle.view_times.proofs.Calls.{frees, keeps, unseen}
 use Rattle.mount_requests.specs.Answers.{Answered, Answers, AnswersIfRoom, Failed, NoRoom, Refused, Told, Unplanned}
 use Rattle.mount_requests.specs.Apart.{AreApart, IsUnknownIn}
 use Rattle.mount_requests.specs.Asked.{cut_by}
+use Rattle.mount_requests.specs.Found.{inode_of}
 use Rattle.mount_requests.specs.Later.{with_creation}
 use Rattle.mount_requests.specs.Requests.{AnswersLookUpBy, IsAnswered, born_if, with_opening}
 use Rattle.mount_requests.specs.Seen.{Seen}
-use Rattle.mount_requests.specs.Times.{Events, view_at, with_each, with_events, with_events_if}
+use Rattle.mount_requests.specs.Times.{Events, inode_named, of_cutting, of_linking, of_making, of_moving, of_removing, of_setting, of_writing, view_at, with_each, with_events, with_events_if}
 use Rattle.mount_requests.specs.declared.failure.Failure.{Failure}
 use Rattle.mount_requests.specs.declared.opening.Opening.{Opening}
 use Rattle.mount_requests.specs.declared.opening.Opening.TheVariants.{Again, First}
@@ -97,12 +98,12 @@ module _ (s : Seen) (node : ℕ) where
   if_apart false events live = apart_is s here refl
 
   opening_apart : (pid : ℕ) (how : Cut) (o : Opening) (fd : ℕ) → here ≢ 0 → AreApart s (with_opening s pid node how o fd) here
-  opening_apart pid how (Again inode handle kept) fd live = apart_events s here _ _ live refl
-  opening_apart pid how (First view path inode) fd live = apart_events s here _ _ live refl
+  opening_apart pid how (Again inode handle kept) fd live = apart_events s here _ (of_cutting how inode) live refl
+  opening_apart pid how (First view path inode) fd live = apart_events s here _ (of_cutting how inode) live refl
 
   created_apart : (b : Bool) (how : Cut) (inode : ℕ) (known : Seen) → here ≢ 0 → known.nodes.births ≡ (born_if b s.nodes inode).births → known.times ≡ (with_creation b s node how inode).times → AreApart s known here
-  created_apart true how inode known live born e = apart_birth s here known inode _ live born e
-  created_apart false how inode known live born e = apart_events s here known _ live e
+  created_apart true how inode known live born e = apart_birth s here known inode (of_making inode (inode_of s node)) live born e
+  created_apart false how inode known live born e = apart_events s here known (of_cutting how inode) live e
 
   look_up_apart : (b : Bool) (later : Seen) (pid : ℕ) (name : List ℕ) (old new : Shown) (r : Result Reply Failure) → AnswersLookUpBy b s later pid node name old new r → AreApart s later here
   look_up_apart true later pid name old new r h = apart_is s here h.2
@@ -111,22 +112,22 @@ module _ (s : Seen) (node : ℕ) where
 pub answered_apart : (s later : Seen) (pid : ℕ) (who : Caller) (o : Operation) (old new : Shown) (r : Result Reply Failure) → view_at s who.node ≢ 0 → IsAnswered s later pid who o old new r → AreApart s later (view_at s who.node)
 answered_apart s later pid who (asked.Lookup name) old new r live h = look_up_apart s who.node (is_reserved who.node name) later pid name old new r h
 answered_apart s later pid who (asked.GetAttr x) old new r live h = answers_apart (view_at s who.node) (λ p x known told k. apart_is s (view_at s who.node) k.1) h
-answered_apart s later pid who (asked.SetAttr x) old new r live h = answers_apart (view_at s who.node) (λ p x known told k. apart_to s (view_at s who.node) k.1 (if_apart s who.node (is_current s.nodes who.node) _ live)) h
+answered_apart s later pid who (asked.SetAttr changes) old new r live h = answers_apart (view_at s who.node) (λ p x known told k. apart_to s (view_at s who.node) k.1 (if_apart s who.node (is_current s.nodes who.node) (of_setting changes s.time x.num) live)) h
 answered_apart s later pid who asked.ReadLink old new r live h = answers_apart (view_at s who.node) (λ p x known told k. apart_is s (view_at s who.node) k.1) h
 answered_apart s later pid who asked.OpenDir old new r live h = looks_apart (view_at s who.node) (λ p x known told k. apart_to s (view_at s who.node) k.1 (apart_same s (view_at s who.node) _ refl)) h
 answered_apart s later pid who (asked.ReadDir x y z) old new r live h = looks_apart (view_at s who.node) (λ p x known told k. apart_to s (view_at s who.node) k.1 (apart_same s (view_at s who.node) _ refl)) h
 answered_apart s later pid who (asked.Access x) old new r live h = apart_is s (view_at s who.node) h.2
-answered_apart s later pid who (asked.SymLink y z) old new r live h = answers_apart (view_at s who.node) (λ p x known told k. apart_to s (view_at s who.node) k.1 (apart_birth s (view_at s who.node) _ x.num _ live (births_stay (made s.nodes x.num) _ x.num x.kind) refl)) h
-answered_apart s later pid who (asked.MkNod y z) old new r live h = answers_apart (view_at s who.node) (λ p x known told k. apart_to s (view_at s who.node) k.1 (apart_birth s (view_at s who.node) _ x.num _ live (births_stay (made s.nodes x.num) _ x.num x.kind) refl)) h
-answered_apart s later pid who (asked.MkDir y z) old new r live h = answers_apart (view_at s who.node) (λ p x known told k. apart_to s (view_at s who.node) k.1 (apart_birth s (view_at s who.node) _ x.num _ live (births_stay (made s.nodes x.num) _ x.num x.kind) refl)) h
-answered_apart s later pid who (asked.Unlink x) old new r live h = answers_apart (view_at s who.node) (λ p x known told k. apart_to s (view_at s who.node) k.1 (apart_events s (view_at s who.node) _ _ live refl)) h
-answered_apart s later pid who (asked.RmDir x) old new r live h = answers_apart (view_at s who.node) (λ p x known told k. apart_to s (view_at s who.node) k.1 (apart_events s (view_at s who.node) _ _ live refl)) h
-answered_apart s later pid who (asked.Rename x y z w) old new r live h = answers_apart (view_at s who.node) (λ p x known told k. apart_to s (view_at s who.node) k.1 (apart_events s (view_at s who.node) _ _ live refl)) h
-answered_apart s later pid who (asked.Link x y) old new r live h = answers_apart (view_at s who.node) (λ p x known told k. apart_to s (view_at s who.node) k.1 (apart_events s (view_at s who.node) _ _ live refl)) h
+answered_apart s later pid who (asked.SymLink y z) old new r live h = answers_apart (view_at s who.node) (λ p x known told k. apart_to s (view_at s who.node) k.1 (apart_birth s (view_at s who.node) _ x.num (of_making x.num (inode_of s who.node)) live (births_stay (made s.nodes x.num) _ x.num x.kind) refl)) h
+answered_apart s later pid who (asked.MkNod y z) old new r live h = answers_apart (view_at s who.node) (λ p x known told k. apart_to s (view_at s who.node) k.1 (apart_birth s (view_at s who.node) _ x.num (of_making x.num (inode_of s who.node)) live (births_stay (made s.nodes x.num) _ x.num x.kind) refl)) h
+answered_apart s later pid who (asked.MkDir y z) old new r live h = answers_apart (view_at s who.node) (λ p x known told k. apart_to s (view_at s who.node) k.1 (apart_birth s (view_at s who.node) _ x.num (of_making x.num (inode_of s who.node)) live (births_stay (made s.nodes x.num) _ x.num x.kind) refl)) h
+answered_apart s later pid who (asked.Unlink name) old new r live h = answers_apart (view_at s who.node) (λ p x known told k. apart_to s (view_at s who.node) k.1 (apart_events s (view_at s who.node) _ (of_removing (inode_named s who.node name) (inode_of s who.node)) live refl)) h
+answered_apart s later pid who (asked.RmDir name) old new r live h = answers_apart (view_at s who.node) (λ p x known told k. apart_to s (view_at s who.node) k.1 (apart_events s (view_at s who.node) _ (of_removing (inode_named s who.node name) (inode_of s who.node)) live refl)) h
+answered_apart s later pid who (asked.Rename name new_node new_name flags) old new r live h = answers_apart (view_at s who.node) (λ p x known told k. apart_to s (view_at s who.node) k.1 (apart_events s (view_at s who.node) _ (of_moving (inode_named s who.node name) (inode_of s who.node) (inode_of s new_node)) live refl)) h
+answered_apart s later pid who (asked.Link x y) old new r live h = answers_apart (view_at s who.node) (λ p x known told k. apart_to s (view_at s who.node) k.1 (apart_events s (view_at s who.node) _ (of_linking p.inode (inode_of s who.node)) live refl)) h
 answered_apart s later pid who (asked.Create x y z w) old new r live h = answers_apart (view_at s who.node) (λ p made_file known told k. apart_to s (view_at s who.node) k.1 (created_apart s who.node made_file.is_new (cut_by y w) made_file.stat.num _ live (births_stay (born_if made_file.is_new s.nodes made_file.stat.num) _ made_file.stat.num made_file.stat.kind) refl)) h
 answered_apart s later pid who (asked.Open x y) old new r live h = answers_apart (view_at s who.node) (λ p fd known told k. apart_to s (view_at s who.node) k.1 (opening_apart s who.node pid (cut_by x y) p fd live)) h
 answered_apart s later pid who (asked.Read x y z w) old new r live h = answers_apart (view_at s who.node) (λ p x known told k. apart_is s (view_at s who.node) k.1) h
-answered_apart s later pid who (asked.Write x y z w v) old new r live h = answers_apart (view_at s who.node) (λ p x known told k. apart_to s (view_at s who.node) k.1 (apart_events s (view_at s who.node) _ _ live refl)) h
+answered_apart s later pid who (asked.Write x y z w v) old new r live h = answers_apart (view_at s who.node) (λ p x known told k. apart_to s (view_at s who.node) k.1 (apart_events s (view_at s who.node) _ (of_writing p.inode) live refl)) h
 answered_apart s later pid who (asked.Lseek x y z) old new r live h = answers_apart (view_at s who.node) (λ p x known told k. apart_is s (view_at s who.node) k.1) h
 answered_apart s later pid who (asked.Forget x) old new r live h = apart_is s (view_at s who.node) h.2
 answered_apart s later pid who (asked.BatchForget x) old new r live h = apart_is s (view_at s who.node) h.2

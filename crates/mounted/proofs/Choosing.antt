@@ -29,11 +29,11 @@ is_err (Err y) h = ap Err h
 is_err (Ok x) h = absurd h
 
 -- no process could be had
-pub without_process : (s later : Seen) (who : Caller) (operation : Operation) {e : Failure} {old new : Shown} (r : Result Reply Failure) → IsErrAnd r (λ y. y ≡ e) → chosen s who.who operation ≡ None → IsLacking s later old new e → ServesPlain s later who operation old new r
+pub without_process : (s later : Seen) (who : Caller) (operation : Operation) {e : Failure} {old new : Shown} (r : Result Reply Failure) → IsErrAnd r (λ y. y ≡ e) → chosen s who.node operation ≡ None → IsLacking s later old new e → ServesPlain s later who operation old new r
 without_process s later who operation r is none (inl h) = Refused h.0 h.1 (is_err r is ∙ ap Err h.2)
 without_process s later who operation r is none (inr h) = Lacking h.0 none h.1 h.2 (is_err r is ∙ ap Err h.3)
 
 -- or the request was answered by it
-pub by_process : (s known later : Seen) (who : Caller) (pid by : ℕ) (operation : Operation) {old mid at new : Shown} (r : Result Reply Failure) → by ≡ pid → at ≡ mid → IsReady (chosen s who.who operation) s old pid known mid → IsAnswered known later by who operation at new r → ServesPlain s later who operation old new r
+pub by_process : (s known later : Seen) (who : Caller) (pid by : ℕ) (operation : Operation) {old mid at new : Shown} (r : Result Reply Failure) → by ≡ pid → at ≡ mid → IsReady (chosen s who.node operation) s old pid known mid → IsAnswered known later by who operation at new r → ServesPlain s later who operation old new r
 by_process s known later who pid by operation {old} {mid} {at} {new} r is same ready h =
     Ready pid known mid ready (subst (λ (x : Shown). IsAnswered known later pid who operation x new r) same (subst (λ (p : ℕ). IsAnswered known later p who operation at new r) is h))

@@ -1,7 +1,7 @@
 use Rattle.std.proofs.Common.{arith, [], ◌∷◌, ℕ, ap, sym, ◌∙◌}
 use Rattle.view_times.specs.declared.event.Event.TheVariants.{Made, Modified, StatusChanged}
 use Rattle.mount_requests.specs.Seen.{seen}
-use Rattle.mount_requests.specs.Times.{of_names, of_removing, with_events}
+use Rattle.mount_requests.specs.Times.{inode_named, of_names, of_removing, with_events}
 use Rattle.mount_requests.proofs.Noting.{noted_at, noted_then}
 use Rattle.mount_requests.proofs.tables.Tables.note_lost.Goals as goal
 
@@ -18,4 +18,4 @@ returns-clause-seen c =
     noted_at s (seen c.note_name.new.self) node c.view_at-view.result _ (of_removing c.inode_named-lost.result c.inode_of-directory.result) c.view_at-view.ensures
     (noted_then s (seen c.note.new.self) (seen c.note_name.new.self) c.view_at-view.result c.inode_of-directory.result Modified (of_names c.inode_named-lost.result) c.note.ensures.seen c.note_name.ensures.seen)
     ∙ ap (λ o. with_events node (of_removing o c.inode_of-directory.result) s) c.inode_named-lost.ensures
-    ∙ ap (λ (d : ℕ). with_events node (of_removing _ d) s) c.inode_of-directory.ensures
+    ∙ ap (λ (d : ℕ). with_events node (of_removing (inode_named s node c.args.entry.now.name) d) s) c.inode_of-directory.ensures
