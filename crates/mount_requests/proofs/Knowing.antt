@@ -41,6 +41,14 @@ linked s u later node name inode p stat entry a b is known =
     let h : IsEntry s.nodes (named node name) stat (times_at s t.times node stat.num) entry × (later ≡ with_link s node name inode stat) = looked_at t u later node name p stat entry a b is known in
     (subst (λ (k : Known). IsEntry s.nodes (named node name) stat (times_at s k node stat.num) entry) (sym (ap (λ (v : Seen). v.times) h.1)) h.0, h.1)
 
+-- an object was made, and then a look-up of its name is counted
+pub entry_of_new : (s mid later : Seen) (p q : DirectoryEntry) (stat : Stat) (entry : Entry) → mid ≡ with_new s q.parent stat.num → q ≡ p → IsEntry mid.nodes p stat (times_at mid mid.times p.parent stat.num) entry → later ≡ record mid { nodes = looked_up mid.nodes p stat.num stat.kind } → IsEntry (made s.nodes stat.num) p stat (times_at s later.times p.parent stat.num) entry × (later ≡ record (with_new s p.parent stat.num) { nodes = looked_up (made s.nodes stat.num) p stat.num stat.kind })
+entry_of_new s mid later p q stat entry noted same is known =
+    let new : mid ≡ with_new s p.parent stat.num = noted ∙ ap (λ (x : DirectoryEntry). with_new s x.parent stat.num) same in
+    let then : later ≡ record (with_new s p.parent stat.num) { nodes = looked_up (made s.nodes stat.num) p stat.num stat.kind } = known ∙ ap (λ (v : Seen). record v { nodes = looked_up v.nodes p stat.num stat.kind }) new in
+    let told : IsEntry (made s.nodes stat.num) p stat (times_at s (with_new s p.parent stat.num).times p.parent stat.num) entry = subst (λ (v : Seen). IsEntry v.nodes p stat (times_at v v.times p.parent stat.num) entry) new is in
+    (subst (λ (k : Known). IsEntry (made s.nodes stat.num) p stat (times_at s k p.parent stat.num) entry) (sym (ap (λ (v : Seen). v.times) then)) told, then)
+
 -- an object was made, and its name looked up
 pub born : (s u later : Seen) (node : ℕ) (name : List ℕ) (p : DirectoryEntry) (stat : Stat) (entry : Entry) → u ≡ s → p ≡ named node name → IsEntry (made u.nodes stat.num) p stat (times_at u later.times p.parent stat.num) entry → later ≡ record (with_new u p.parent stat.num) { nodes = looked_up (made u.nodes stat.num) p stat.num stat.kind } → ShowsMade s later node name stat (Ok (reply.Entry entry)) × (later ≡ with_made s node name stat)
 born s u later node name p stat entry a b is known =

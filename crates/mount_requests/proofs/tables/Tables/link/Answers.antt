@@ -25,7 +25,7 @@ returns-in_err-stat-clause-answers g c =
 
 pub returns-clause-answers : goal.returns-clause-answers
 returns-clause-answers g c =
-    let noted = c.note_linked.ensures.seen ∙ ap (λ (v : Seen). with_events c.args.parent (of_linking _ (inode_of v c.args.parent)) v) (c.in_ok-spot.ensures.seen ∙ c.in_ok-reserve_events.ensures.seen) in
+    let noted = c.note_linked.ensures.seen ∙ ap (λ (v : Seen). with_events c.args.parent (of_linking c.in_ok-from.field-0.inode (inode_of v c.args.parent)) v) (c.in_ok-spot.ensures.seen ∙ c.in_ok-reserve_events.ensures.seen) in
     told c.in_ok-from.ensures.plan c.in_ok-stat.ensures.ran
     (linked (seen c.args.self.now) (seen c.note_linked.new.self) (seen c.entry-entry.new.self) c.args.parent c.args.name.now _ _ _ _ noted c.in_ok-spot.ensures.entry c.entry-entry.ensures.entry c.entry-entry.ensures.seen)
 
