@@ -1,3 +1,4 @@
+use Rattle.mount_requests.specs.Found.{file_at}
 use Rattle.mount_requests.specs.Seen.{seen}
 use Rattle.mounted.proofs.Releases.{is_closed, is_not_closed}
 use Rattle.mounted.proofs.Staying.{sound_into, sound_released, stand_same}
@@ -13,4 +14,4 @@ returns-in-None-clause-releases g c =
 
 pub returns-in-None-clause-sound : goal.returns-in-None-clause-sound
 returns-in-None-clause-sound g c =
-    sound_into c.count_down.ensures (sound_released (seen c.args.self.now.tables) c.args.handle _ (stand_same _))
+    sound_into c.count_down.ensures (sound_released (seen c.args.self.now.tables) c.args.handle (file_at (seen c.args.self.now.tables) c.args.handle) (stand_same _))
