@@ -17,7 +17,7 @@ use std::marker::Model;
 
 /// The changes of the descriptors of all processes; a transaction changes those of its own.
 pub struct Slots {
-    /// What is changed of each process's, by its number, which stands once.
+    /// The number of each process with what is changed of its descriptors; each stands once.
     pub each: Vec<(Pid, SlotPatch), Heap>,
 }
 
