@@ -54,11 +54,7 @@ pub fn given_over(contents: &Contents, name: &Name, stored: Option<Num>) -> Opti
 
 /// All names in order, with changes of the contents of their directory, which is this one below
 /// them. `AllocError` where memory is refused.
-pub fn names_over(
-    heap: Heap,
-    contents: &Contents,
-    stored: &Dir,
-) -> Result<NameList, AllocError>
+pub fn names_over(heap: Heap, contents: &Contents, stored: &Dir) -> Result<NameList, AllocError>
     ensures { IfOk result (λ list. (o : Option Inode) → names_of_inode o ≡ stored.now.names
         → list ≡ keys (names_of_inode (patched contents.now o))) }
 {
@@ -170,11 +166,7 @@ pub fn new_ends(contents: &Contents) -> Option<(Num, Num)>
 
 /// Bytes from the front of a pipe, `count` at most; none where there is no pipe. `AllocError` where
 /// memory is refused.
-pub fn front_of(
-    heap: Heap,
-    stored: Option<&OpenPipe>,
-    count: usize,
-) -> Result<Bytes, AllocError>
+pub fn front_of(heap: Heap, stored: Option<&OpenPipe>, count: usize) -> Result<Bytes, AllocError>
     ensures { IfOk result (λ bytes. (o : Option Inode)
         → pipe_inode o ≡ mapped (λ pipe. A_pipe pipe.bytes) (option_copied stored.entry)
         → bytes ≡ take count (pipe_of_inode o)) }

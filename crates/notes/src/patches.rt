@@ -220,13 +220,7 @@ impl Patches {
     }
 
     // A new object with its name.
-    fn make(
-        &mut self,
-        what: NewObject,
-        parent: Num,
-        name: Name,
-        num: Num,
-    ) -> Result<(), AllocError>
+    fn make(&mut self, what: NewObject, parent: Num, name: Name, num: Num) -> Result<(), AllocError>
         requires { num ≢ parent }
         ensures ok { OnOk result (TakesIn (num ∷ []) (making what parent name) self.old self.new) }
         ensures err { OnErr result (SamePatches self.old self.new) }
@@ -432,11 +426,7 @@ impl Patches {
     ///
     /// `AllocError` where memory is refused, or where a count of names would not fit; then all shows as
     /// before.
-    pub fn note(
-        &mut self,
-        chosen: &[Num],
-        mut edits: Vec<Edit, Heap>,
-    ) -> Result<(), AllocError>
+    pub fn note(&mut self, chosen: &[Num], mut edits: Vec<Edit, Heap>) -> Result<(), AllocError>
         requires kinds { CanEdit edits.items }
         requires count { length chosen.now ≡ sum_by news edits.items }
         requires apart { AllByRecursion (AreApart chosen.now) edits.items }
