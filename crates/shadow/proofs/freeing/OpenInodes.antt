@@ -25,11 +25,11 @@ use Rattle.shadow.proofs.shared.FixedKinds.{not_opened}
 pub pipe_there : (o : Option Object) (pipe : OpenPipe) → Some pipe ≡ option_and_then pipe_of o → o ≡ Some (Kept_pipe pipe)
 pipe_there None pipe is = absurd cc
 pipe_there (Some (Kept_pipe other)) pipe is = ap (λ (o : Option OpenPipe). with_pipe other o) (sym is)
-pipe_there (Some (Kept_fixed fixed)) pipe is = absurd cc
   where
     with_pipe : OpenPipe → Option OpenPipe → Option Object
     with_pipe p (Some q) = Some (Kept_pipe q)
     with_pipe p None = Some (Kept_pipe p)
+pipe_there (Some (Kept_fixed fixed)) pipe is = absurd cc
 pipe_there (Some (Kept_directory listing)) pipe is = absurd cc
 pipe_there (Some (Kept_file file)) pipe is = absurd cc
 pipe_there (Some (Kept_description opened)) pipe is = absurd cc
