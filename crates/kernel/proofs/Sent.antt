@@ -17,13 +17,13 @@ use Rattle.pipe_shadow.specs.contracts.PipeShadow as PipeShadow
 use Rattle.circular_buffer.proofs.Crosses.{Cells-send, Deed-send}
 use Rattle.fdtable.specs.contracts.FdTable as FdTable
 use Rattle.fdtable.specs.contracts.SlotPatch as SlotPatch
-use Rattle.shadow.specs.contracts.change.Contents as Contents
-use Rattle.shadow.specs.contracts.change.InodeChange as InodeChange
-use Rattle.shadow.specs.contracts.inodes.Inodes as Inodes
-use Rattle.shadow.specs.contracts.new_rights.NewRights as NewRights
-use Rattle.shadow.specs.contracts.opening.Openings as Openings
-use Rattle.shadow.specs.contracts.slots.Slots as Slots
-use Rattle.shadow.specs.contracts.patches.Patches as Patches
+use Rattle.notes.specs.contracts.change.Contents as Contents
+use Rattle.notes.specs.contracts.change.InodeChange as InodeChange
+use Rattle.notes.specs.contracts.inodes.Inodes as Inodes
+use Rattle.notes.specs.contracts.new_rights.NewRights as NewRights
+use Rattle.notes.specs.contracts.opening.Openings as Openings
+use Rattle.notes.specs.contracts.slots.Slots as Slots
+use Rattle.notes.specs.contracts.patches.Patches as Patches
 use Rattle.shadow.specs.contracts.shadow.Shadow as Shadow
 use Rattle.store.specs.contracts.Header as Header
 use Rattle.store.specs.contracts.Object as Object

@@ -16,9 +16,9 @@ ghost use Rattle.store.specs.Shown.{file_inode, pipe_inode};
 ghost use Rattle.shadow.specs.Claims.{AreUnused, Claim, Covers, HaveParents, IsDirectory, KeepsMore};
 ghost use Rattle.shadow.specs.Claims.{KeepsNothing, KeepsSame, claimed_by, number_as, number_of};
 ghost use Rattle.shadow.specs.Claims.{reserved, room_in};
-ghost use Rattle.shadow.specs.Log.{effect};
+ghost use Rattle.notes.specs.Log.{effect};
 ghost use Rattle.shadow.specs.Looks.{DirectoriesAreKept, birth_of};
-ghost use Rattle.shadow.specs.Steps.{CanEdit};
+ghost use Rattle.notes.specs.Steps.{CanEdit};
 ghost use Rattle.shadow.specs.Stored.{numbered, with_one_more, with_process};
 
 use crate::shadow::Shadow;

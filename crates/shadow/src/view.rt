@@ -11,13 +11,9 @@ ghost use Rattle.freeing_laws.specs.Sweep.{AllFit};
 ghost use Rattle.objects.specs.declared.run.TheConstants.{LARGEST_RUN};
 ghost use Rattle.shadow.specs.Claims.{Covers};
 ghost use Rattle.shadow.specs.Looks.{DirectoriesAreKept, IsNet, KeepsRest, changes_of};
-ghost use Rattle.shadow.specs.Patches.{net_of};
+ghost use Rattle.notes.specs.Patches.{net_of};
 
-use crate::change::InodeChange;
-use crate::overlay::{
-    bytes_over, count_over, front_of, front_over, given_over, is_empty_over, kind_over, len_over,
-    names_over, new_ends, pipe_len_of, pipe_len_over, small, target_over,
-};
+use crate::counting::{count_over, small, turnover};
 use crate::shadow::Shadow;
 use crate::stable::Stable;
 use dirlist::Dir;
@@ -26,6 +22,10 @@ use freeing_laws::{left_is_tidy, pipes_keep_their_ends};
 use heap::Heap;
 use ids::{Bytes, DESCRIPTORS, Fd, Kind, Name, NameList, Num, PIPE_CAPACITY, Pid, Rights, Slot};
 use look::Look;
+use notes::{
+    InodeChange, bytes_over, front_of, front_over, given_over, is_empty_over, kind_over, len_over,
+    names_over, new_ends, pipe_len_of, pipe_len_over, target_over,
+};
 use objects::{Description, FileData};
 use std::alloc::AllocError;
 use std::marker::Model;
@@ -231,7 +231,7 @@ impl<'a> View<'a> {
         let stored = self.stable.holders(description);
         match self.shadow {
             Some(shadow) => {
-                let (added, taken) = shadow.patches.slots.turnover(self.stable, description);
+                let (added, taken) = turnover(&shadow.patches.slots, self.stable, description);
                 count_over(stored, added, taken)
             }
             None => count_over(stored, 0, 0),
