@@ -1,6 +1,7 @@
 // What an inode is like with a transaction's changes of its contents on top.
 ghost use Rattle.std.specs.Prelude.{◌≡◌, ◌≤◌, IfOk, IsSome, Option, drop};
 ghost use Rattle.std.specs.Prelude.{false, length, option_copied, take};
+ghost use Rattle.ids.specs.declared.limits.TheConstants.{TARGET_LIMIT};
 ghost use Rattle.model.specs.FiniteMap.{get, keys};
 ghost use Rattle.model.specs.Paths.{is_empty};
 ghost use Rattle.model.specs.State.{Inode, file_of_inode, kind, mapped};
@@ -245,8 +246,10 @@ pub fn pipe_len_over(contents: &Contents, stored: Option<&OpenPipe>) -> usize
 /// The target of a symbolic link with changes of its contents, by the one below them; no bytes where
 /// it is none. It takes no memory.
 pub fn target_over<'a>(contents: &'a Contents, stored: &'a [u8]) -> &'a [u8]
-    ensures { (o : Option Inode) → target_of_inode o ≡ stored.now
+    requires { length stored.now ≤ TARGET_LIMIT }
+    ensures value { (o : Option Inode) → target_of_inode o ≡ stored.now
         → result.now ≡ target_of_inode (patched contents.now o) }
+    ensures small { length result.now ≤ TARGET_LIMIT }
 {
     match contents {
         Contents::Same => stored,

@@ -1,6 +1,7 @@
 // What a process sees.
 ghost use Rattle.std.specs.Prelude.{◌≡◌, ◌≤◌, IfOk, IfSome, drop};
 ghost use Rattle.std.specs.Prelude.{if◌then◌else◌, length, option_copied, option_map, take};
+ghost use Rattle.ids.specs.declared.limits.TheConstants.{TARGET_LIMIT};
 ghost use Rattle.model.specs.FiniteMap.{get};
 ghost use Rattle.model.specs.State.{file_of, kind_of, names_of, pipe_of, target_of};
 ghost use Rattle.model.specs.Changes.{holders, process_of};
@@ -262,7 +263,8 @@ impl<'a> View<'a> {
 
     // The target of a symbolic link, empty for what is none.
     fn link_target(&self, link: Num) -> &[u8]
-        ensures { result.now ≡ target_of self.now.state link }
+        ensures value { result.now ≡ target_of self.now.state link }
+        ensures small { length result.now ≤ TARGET_LIMIT }
     {
         let stored = self.stable.target(link);
         match change(self.shadow, link) {
@@ -423,6 +425,10 @@ impl<'a> Look for View<'a> {
 
     fn target(&self, heap: Heap, link: Num) -> Result<Bytes, AllocError> {
         Bytes::copy(heap, self.link_target(link))
+    }
+
+    fn target_len(&self, link: Num) -> u32 {
+        self.link_target(link).len() as u32
     }
 
     fn rights(&self, inode: Num) -> Rights {
