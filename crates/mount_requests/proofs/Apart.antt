@@ -12,11 +12,9 @@ use Rattle.nodes.specs.Tables.{Table, is_current, known, looked_up, looked_up_as
 use Rattle.nodes.specs.declared.directory_entry.DirectoryEntry.{DirectoryEntry}
 use Rattle.course.specs.Course.{Course}
 use Rattle.course.specs.declared.fault.Fault.{Fault}
-use Rattle.course.specs.declared.files.Made.{Made}
 use Rattle.course.specs.declared.made.Cut.{Cut}
 use Rattle.mount_tables.specs.Numbers.{is_reserved}
 use Rattle.view_times.specs.Known.{Known, freed, noted_by, times_of}
-use Rattle.view_times.specs.Times.{first_times}
 use Rattle.view_times.proofs.Calls.{frees, keeps, unseen}
 use Rattle.mount_requests.specs.Answers.{Answered, Answers, AnswersIfRoom, Failed, NoRoom, Refused, Told, Unplanned}
 use Rattle.mount_requests.specs.Apart.{AreApart, IsUnknownIn}
@@ -25,7 +23,7 @@ use Rattle.mount_requests.specs.Found.{inode_of}
 use Rattle.mount_requests.specs.Later.{with_creation}
 use Rattle.mount_requests.specs.Requests.{AnswersLookUpBy, IsAnswered, born_if, with_opening}
 use Rattle.mount_requests.specs.Seen.{Seen}
-use Rattle.mount_requests.specs.Times.{Events, inode_named, of_cutting, of_linking, of_making, of_moving, of_removing, of_setting, of_writing, view_at, with_each, with_events, with_events_if}
+use Rattle.mount_requests.specs.Times.{Events, inode_named, of_cutting, of_linking, of_making, of_moving, of_removing, of_setting, of_writing, view_at, with_each, with_events_if}
 use Rattle.mount_requests.specs.declared.failure.Failure.{Failure}
 use Rattle.mount_requests.specs.declared.opening.Opening.{Opening}
 use Rattle.mount_requests.specs.declared.opening.Opening.TheVariants.{Again, First}

@@ -24,7 +24,7 @@ use Rattle.mount_requests.specs.Found.{handle_of}
 use Rattle.mount_requests.specs.Keeping.{AreKept, Keeps, purpose}
 use Rattle.mount_requests.specs.Later.{opened_first}
 use Rattle.mount_requests.specs.Requests.{AnswersLookUpBy, IsAnswered, with_open_by, with_opening}
-use Rattle.mount_requests.specs.Times.{Events, with_events, with_events_if}
+use Rattle.mount_requests.specs.Times.{Events, with_events_if}
 use Rattle.mount_requests.specs.Seen.{Seen}
 use Rattle.mount_requests.specs.declared.failure.Failure.{Failure}
 use Rattle.mount_requests.specs.declared.opening.Opening.{Opening}

@@ -71,7 +71,9 @@ impl CommandLineFault {
                 let _said = error.print(rt);
             }
             CommandLineFault::NotUtf8 => {
-                let _said = rt.stderr().write_all("txfs: an argument is not UTF-8\n".as_bytes());
+                let _said = rt
+                    .stderr()
+                    .write_all("txfs: an argument is not UTF-8\n".as_bytes());
             }
             CommandLineFault::NoMemory => {
                 let _said = rt.stderr().write_all("txfs: no memory\n".as_bytes());

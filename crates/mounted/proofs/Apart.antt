@@ -30,11 +30,11 @@ use Rattle.mounted.proofs.Viewing.{steps_at}
 noted_apart : (s served : Seen) (view : ℕ) (r : Result Reply Failure) → AreApart s served view → AreApart s (noted served view r) view
 noted_apart s served view (Ok reply) h = h
 noted_apart s served view (Err (failure.Error e)) h = h
-noted_apart s served view (Err (failure.Aborted why)) h other inode away = by (h other inode away)
+noted_apart s served view (Err (failure.Aborted why)) h = λ other inode away. by other inode away (h other inode away)
   where
-    by : (times_of served.times other inode ≡ times_of s.times other inode) ⊎ IsUnknownIn s served other inode → (times_of (forgotten served.times view) other inode ≡ times_of s.times other inode) ⊎ IsUnknownIn s (noted served view (Err (failure.Aborted why))) other inode
-    by (inl same) = inl (stays served.times view other inode away ∙ same)
-    by (inr new) = inr (record { born = new.born; unknown = stays served.times view other inode away ∙ new.unknown })
+    by : (other inode : ℕ) → other ≢ view → (times_of served.times other inode ≡ times_of s.times other inode) ⊎ IsUnknownIn s served other inode → (times_of (forgotten served.times view) other inode ≡ times_of s.times other inode) ⊎ IsUnknownIn s (noted served view (Err (failure.Aborted why))) other inode
+    by other inode away (inl same) = inl (stays served.times view other inode away ∙ same)
+    by other inode away (inr new) = inr (record { born = new.born; unknown = stays served.times view other inode away ∙ new.unknown })
 
 module _ (s later : Seen) (who : Caller) (operation : Operation) (old new : Shown) (view : ℕ) (is : view_of (root_of s.nodes who.node) ≡ Some view) (live : view ≢ 0) where
   here : view_at s who.node ≡ view

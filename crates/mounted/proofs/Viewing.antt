@@ -55,7 +55,7 @@ other s view st true is apart h = absurd cc
 other s view st false is apart h = of_view s view (map.get s.views view) st refl (h ∙ ap (λ (b : Bool). if b then Ok (record { view = 0; pid = 1 }) else stepper_of view (map.get s.views view)) is)
 
 -- what is told of a node below this view
-steps_at : (s : Seen) (node view : ℕ) (st : Stepper) → view_of (root_of s.nodes node) ≡ Some view → view ≢ 0 → Ok st ≡ stepper_at s node → Steps s view st
+pub steps_at : (s : Seen) (node view : ℕ) (st : Stepper) → view_of (root_of s.nodes node) ≡ Some view → view ≢ 0 → Ok st ≡ stepper_at s node → Steps s view st
 steps_at s node view st is apart h =
     other s view st (view == 0) refl (ne_eqb view 0 apart)
     (h ∙ ap (λ (o : Option ℕ). and_then (found_or ESTALE o) (stepper_in s)) is)

@@ -8,7 +8,7 @@ ghost use Rattle.mount_requests.specs.Seen.{IsUnknown};
 ghost use Rattle.mount_requests.specs.Times.{at_time};
 ghost use Rattle.mounted.specs.First.{IsFirst};
 ghost use Rattle.mounted.specs.Served.{IsServed};
-ghost use Rattle.mounted.specs.Server.{HasGrown, caller_of};
+ghost use Rattle.mounted.specs.Server.{HasGrown, caller_of, seen_in};
 ghost use Rattle.mounted.specs.Sound.{IsSound};
 ghost use Rattle.mounted.specs.Steppers.{StaysInView, TimesStayInView, is_release};
 
@@ -37,13 +37,13 @@ impl<K: Machine> Drop for Server<K> {
 
 impl<K: Machine> Model for Server<K> {
     ghost use Rattle.mount_requests.specs.Seen.{seen};
-    ghost use Rattle.mounted.specs.Server.{Served};
+    ghost use Rattle.mounted.specs.Server.{Served, beside_of};
     ghost use Rattle.mounted.specs.Sound.{IsSound};
 
     ghost Value = { Served };
 
     ghost view = { λ s. record {
-      seen = seen s.serving.tables;
+      beside = beside_of s.serving.tables;
       shown = s.serving.hand.shown;
     } };
 
@@ -91,7 +91,7 @@ impl<K: Machine> Server<K> {
         requires files { limits.file_bytes ≤ LARGEST_FILE }
         ensures kept { IfOk result (λ s. Kept s.shown) }
         ensures first { IfOk result (λ s. IsFirst limits s.shown) }
-        ensures unknown { IfOk result (λ s. IsUnknown s.seen) }
+        ensures unknown { IfOk result (λ s. IsUnknown (seen_in s)) }
     {
         let kernel = kernel_with(heap, limits)?;
         Ok(Server {
@@ -112,15 +112,15 @@ impl<K: Machine> Server<K> {
         ensures serial { let s = self.new.shown in
             IsSerializable 0 (setup_of s.log) (limit_of s.log) s.log.entries s.state }
         ensures grows { HasGrown self.old.shown self.new.shown }
-        ensures sound { IsSound self.new.seen self.new.shown }
+        ensures sound { IsSound (seen_in self.new) self.new.shown }
         ensures answered { is_some result ≡ is_answered request.operation }
         ensures in_view { is_release request.operation ≡ false
-            → StaysInView self.old.seen request.node
+            → StaysInView (seen_in self.old) request.node
             self.old.shown.log.entries self.new.shown.log.entries }
-        ensures served { IsServed (at_time now self.old.seen) self.new.seen (caller_of request)
-            request.operation self.old.shown self.new.shown result }
+        ensures served { IsServed (at_time now (seen_in self.old)) (seen_in self.new)
+            (caller_of request) request.operation self.old.shown self.new.shown result }
         ensures times { is_release request.operation ≡ false
-            → TimesStayInView self.old.seen self.new.seen request.node }
+            → TimesStayInView (seen_in self.old) (seen_in self.new) request.node }
     {
         let Request {
             unique: _,

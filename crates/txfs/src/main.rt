@@ -20,6 +20,7 @@ use std::{env, io};
 
 // The exit status where memory was refused, and where a read failed.
 const NO_MEMORY: u8 = 3;
+
 const READ_FAILED: u8 = 5;
 
 fn main(rt: HostRuntime) -> ExitCode {

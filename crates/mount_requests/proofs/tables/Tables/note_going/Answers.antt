@@ -1,5 +1,5 @@
-use Rattle.std.proofs.Common.{arith, [], ◌∷◌, ℕ, ap, sym, ◌∙◌}
-use Rattle.view_times.specs.declared.event.Event.TheVariants.{Made, Modified, StatusChanged}
+use Rattle.std.proofs.Common.{arith, ◌∷◌, ℕ, ap, sym, ◌∙◌}
+use Rattle.view_times.specs.declared.event.Event.TheVariants.{Modified}
 use Rattle.mount_requests.specs.Found.{inode_of}
 use Rattle.mount_requests.specs.Seen.{seen}
 use Rattle.mount_requests.specs.Times.{inode_named, of_moving, of_names, with_events}

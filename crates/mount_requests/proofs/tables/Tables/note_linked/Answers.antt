@@ -1,5 +1,5 @@
 use Rattle.std.proofs.Common.{arith, [], ◌∷◌, ℕ, ap, sym, ◌∙◌}
-use Rattle.view_times.specs.declared.event.Event.TheVariants.{Made, Modified, StatusChanged}
+use Rattle.view_times.specs.declared.event.Event.TheVariants.{Modified, StatusChanged}
 use Rattle.mount_requests.specs.Seen.{seen}
 use Rattle.mount_requests.specs.Times.{of_linking, with_events}
 use Rattle.mount_requests.proofs.Noting.{noted_at, noted_then}

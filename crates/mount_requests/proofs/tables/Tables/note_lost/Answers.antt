@@ -1,5 +1,5 @@
-use Rattle.std.proofs.Common.{arith, [], ◌∷◌, ℕ, ap, sym, ◌∙◌}
-use Rattle.view_times.specs.declared.event.Event.TheVariants.{Made, Modified, StatusChanged}
+use Rattle.std.proofs.Common.{arith, ℕ, ap, sym, ◌∙◌}
+use Rattle.view_times.specs.declared.event.Event.TheVariants.{Modified}
 use Rattle.mount_requests.specs.Seen.{seen}
 use Rattle.mount_requests.specs.Times.{inode_named, of_names, of_removing, with_events}
 use Rattle.mount_requests.proofs.Noting.{noted_at, noted_then}

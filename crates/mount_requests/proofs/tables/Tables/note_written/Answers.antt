@@ -1,5 +1,4 @@
-use Rattle.std.proofs.Common.{arith, [], ◌∷◌, ℕ, ap, sym, ◌∙◌}
-use Rattle.view_times.specs.declared.event.Event.TheVariants.{Made, Modified, StatusChanged}
+use Rattle.std.proofs.Common.{arith, sym}
 use Rattle.mount_requests.specs.Seen.{seen}
 use Rattle.mount_requests.specs.Times.{of_writing}
 use Rattle.mount_requests.proofs.Noting.{noted_at}
