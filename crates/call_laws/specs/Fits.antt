@@ -188,7 +188,7 @@ fixed_of k d = mapped (λ it. slot_of k d (Some it)) (get k.descriptions d)
 -- a process sees the same of itself in two states
 pub record OwnAlike (now later : Kernel) (pid : ℕ) : Type 0 where
   pub root : later.root ≡ now.root
-  pub largest : later.largest ≡ now.largest
+  pub bounds : later.bounds ≡ now.bounds
   pub table : table_of later pid ≡ table_of now pid
   pub fixed : (f d : ℕ) → get (table_of now pid) f ≡ Some d → fixed_of later d ≡ fixed_of now d
 

@@ -14,10 +14,10 @@ use Rattle.model.specs.Legal.{Legal}
 -- largest file.
 pub record IsWithinLimits (k : Kernel) : Type 0 where
   pub made : k.made ≤ most_processes
-  pub files : (n : ℕ) → length (file_of k n) ≤ k.largest
+  pub files : (n : ℕ) → length (file_of k n) ≤ k.bounds.file_bytes
   pub pipes : (p : ℕ) → length (pipe_of k p) ≤ capacity
   pub targets : (n : ℕ) → length (target_of k n) ≤ target_limit
-  pub offsets : (d : ℕ) → offset_of k d ≤ k.largest
+  pub offsets : (d : ℕ) → offset_of k d ≤ k.bounds.file_bytes
 
 -- what is committed, and what each process sees
 pub record StaysWithinLimits (m : Moment) : Type 0 where
@@ -30,10 +30,10 @@ LimitsAreKept = (root : ℕ) (setup : Setup) (limit : Limit) (es : List Entry)
     → Legal root setup limit es → length setup.priorities ≤ most_processes
     → StaysWithinLimits (after root setup es)
 
--- What is committed and what each process sees have the largest file that was given at the start.
-pub record KeepsItsLargest (root : ℕ) (setup : Setup) (es : List Entry) : Type 0 where
-  pub committed : (after root setup es).committed.largest ≡ setup.largest
-  pub seen : (q : ℕ) → (seen_by (after root setup es) q).largest ≡ setup.largest
+-- What is committed and what each process sees have the bounds that were given at the start.
+pub record KeepsItsBounds (root : ℕ) (setup : Setup) (es : List Entry) : Type 0 where
+  pub committed : (after root setup es).committed.bounds ≡ setup.bounds
+  pub seen : (q : ℕ) → (seen_by (after root setup es) q).bounds ≡ setup.bounds
 
-abbrev pub LargestIsGiven : Type 0
-LargestIsGiven = (root : ℕ) (setup : Setup) (es : List Entry) → KeepsItsLargest root setup es
+abbrev pub BoundsAreGiven : Type 0
+BoundsAreGiven = (root : ℕ) (setup : Setup) (es : List Entry) → KeepsItsBounds root setup es

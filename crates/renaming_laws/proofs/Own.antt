@@ -52,7 +52,7 @@ module _ (f : ℕ → ℕ) (r : IsRenaming f) where
   birth_seen k pid _ = refl
 
   pub own_renamed : (k : Kernel) → SlotsAreThere k → (pid : ℕ) (call : Call) → own (renamed f k) pid call ≡ renamed_own f (own k pid call)
-  own_renamed k slots pid call = λ i. record { root = f k.root; largest = k.largest; pid = pid; table = table_seen k slots pid i; birth = birth_seen k pid call i }
+  own_renamed k slots pid call = λ i. record { root = f k.root; bounds = k.bounds; pid = pid; table = table_seen k slots pid i; birth = birth_seen k pid call i }
 
   -- a renamed table
   taken_still : (fd : ℕ) (table : List (ℕ × Slot)) → list_any (λ e. e.0 == fd) (map (with_renamed f) table) ≡ list_any (λ e. e.0 == fd) table

@@ -1,4 +1,4 @@
--- No edit names the most bytes of a file.
+-- No edit names the bounds.
 use Rattle.std.proofs.Common.{◌≡◌, ℕ, List, [], ◌∷◌, Option, Some, None, refl, ◌∙◌}
 use Rattle.model.specs.FiniteMap.{get}
 use Rattle.model.specs.State.{Kernel, Description}
@@ -6,13 +6,13 @@ use Rattle.model.specs.Changes.{Edit, Make_directory, Make_file, Make_fixed, Nam
 use Rattle.model.specs.Entries.{Executed}
 use Rattle.model.specs.Steps.{edits}
 use Rattle.model.specs.Moments.{after_one, after_list, loose}
-use Rattle.call_laws.specs.Largest.{LargestStays}
+use Rattle.call_laws.specs.Bounds.{BoundsStay}
 
-set_stays : (d place : ℕ) (x : Option Description) (k : Kernel) → (set_offset d place x k).largest ≡ k.largest
+set_stays : (d place : ℕ) (x : Option Description) (k : Kernel) → (set_offset d place x k).bounds ≡ k.bounds
 set_stays d place (Some old) k = refl
 set_stays d place None k = refl
 
-one_stays : (chosen : List ℕ) (e : Edit) (k : Kernel) → (applied chosen e k).largest ≡ k.largest
+one_stays : (chosen : List ℕ) (e : Edit) (k : Kernel) → (applied chosen e k).bounds ≡ k.bounds
 unfolding applied
 one_stays chosen (Make_directory d x i) k = refl
 one_stays chosen (Make_file d x i) k = refl
@@ -34,21 +34,21 @@ one_stays chosen (Clear_slot pid f pipes) k = refl
 one_stays chosen (New_process child parent pipes) k = refl
 one_stays chosen (End_process pid pipes) k = refl
 
-pub all_stay : (chosen : List ℕ) (es : List Edit) (k : Kernel) → (all_applied chosen es k).largest ≡ k.largest
+pub all_stay : (chosen : List ℕ) (es : List Edit) (k : Kernel) → (all_applied chosen es k).bounds ≡ k.bounds
 all_stay chosen [] k = refl
 all_stay chosen (e ∷ es) k = all_stay chosen es (applied chosen e k) ∙ one_stays chosen e k
 
-pub tidied_stays : (k : Kernel) → (tidy k).largest ≡ k.largest
+pub tidied_stays : (k : Kernel) → (tidy k).bounds ≡ k.bounds
 unfolding tidy
 tidied_stays k = refl
 
-pub listed_stays : (pid : ℕ) (es : List Executed) (k : Kernel) → (after_list pid es k).largest ≡ k.largest
+pub listed_stays : (pid : ℕ) (es : List Executed) (k : Kernel) → (after_list pid es k).bounds ≡ k.bounds
 listed_stays pid [] k = refl
 listed_stays pid (e ∷ es) k = listed_stays pid es (tidy (after_one pid e k)) ∙ tidied_stays (after_one pid e k) ∙ all_stay e.chosen (edits k pid e.call) k
 
-loose_stays : (pid : ℕ) (es : List Executed) (k : Kernel) → (loose pid es k).largest ≡ k.largest
+loose_stays : (pid : ℕ) (es : List Executed) (k : Kernel) → (loose pid es k).bounds ≡ k.bounds
 loose_stays pid [] k = refl
 loose_stays pid (e ∷ es) k = loose_stays pid es (after_one pid e k) ∙ all_stay e.chosen (edits k pid e.call) k
 
-pub the_largest_file_stays : LargestStays
-the_largest_file_stays = record { all = all_stay; tidied = tidied_stays; listed = listed_stays; loosely = loose_stays }
+pub the_bounds_stay : BoundsStay
+the_bounds_stay = record { all = all_stay; tidied = tidied_stays; listed = listed_stays; loosely = loose_stays }
