@@ -3,7 +3,7 @@
 ghost use Rattle.std.specs.Prelude.{◌≡◌};
 ghost use Rattle.ids.specs.declared.limits.TheConstants.{DEFAULT_DESCRIPTORS, DEFAULT_LARGEST_FILE};
 ghost use Rattle.ids.specs.declared.limits.TheConstants.{DEFAULT_PATH_LIMIT};
-ghost use Rattle.ids.specs.Bounds.{bounds_of};
+ghost use Rattle.ids.specs.Bounds.{bounds_of, given_by_default};
 
 /// The most processes that a kernel ever makes; process numbers go from 1 to this.
 pub const MAX_PROCESSES: u32 = 4096;
@@ -64,11 +64,7 @@ pub struct Bounds {
 impl Bounds {
     /// Those of a kernel for which no numbers are given.
     pub fn given_by_default() -> Bounds
-        ensures { result ≡ record {
-          file_bytes = DEFAULT_LARGEST_FILE;
-          descriptors = DEFAULT_DESCRIPTORS;
-          path_bytes = DEFAULT_PATH_LIMIT;
-        } }
+        ensures { result ≡ given_by_default }
     {
         Bounds {
             file_bytes: DEFAULT_LARGEST_FILE,

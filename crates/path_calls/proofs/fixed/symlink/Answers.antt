@@ -9,4 +9,4 @@ pub returns-in_err-must_be_target : goal.returns-in_err-must_be_target
 returns-in_err-must_be_target g c pid = via (tested_then c.args.target.now _) (stops _ c.from_residual.ensures.1 (c.in_err-must_be_target.ensures _ _))
 
 pub returns : goal.returns
-returns g c pid = via (tested_then c.args.target.now _) (goes _ (c.in_ok-must_be_target.ensures _ _) (via (ap (λ t. made (g.L.Look.state c.args.look.now).root c.args.path.now (Link_to t)) (sym c.in_ok-copy.ensures)) c.made.ensures))
+returns g c pid = via (tested_then c.args.target.now _) (goes _ (c.in_ok-must_be_target.ensures _ _) (via (ap (λ t. made (g.L.Look.state c.args.look.now).bounds.path_bytes (g.L.Look.state c.args.look.now).root c.args.path.now (Link_to t)) (sym c.in_ok-copy.ensures)) c.made.ensures))
