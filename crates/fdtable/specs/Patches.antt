@@ -5,6 +5,7 @@ use Rattle.std.specs.Prelude.{map as list_map}
 use Rattle.std.specs.Coded.{Coded, coded_ℕ, coded_option}
 use Rattle.std.specs.Ordering.{nat_cmp}
 use Rattle.model.specs.FiniteMap as map
+use Rattle.ids.specs.declared.limits.TheConstants.{DESCRIPTORS}
 use Rattle.model.specs.Plan.{rising}
 use Rattle.model.specs.State.{mapped}
 use Rattle.fdtable.specs.Pages.{HasRoom, Paged, most_pages}
@@ -59,6 +60,7 @@ pub record IsPatch (given : Paged) (closed : List ℕ) : Type 0 where
 
 -- there is memory for a note of a descriptor, and for the descriptor itself
 pub record IsPlace (f : ℕ) (given : List Bool) (closed : List ℕ) (table : List Bool) : Type 0 where
+  pub low : f < DESCRIPTORS
   pub given : HasRoom given f
   pub bit : f / 64 < length closed
   pub few : length closed ≤ most_pages

@@ -109,4 +109,12 @@ impl SlotPlace {
             table: SlotRoom::of(heap, fd)?,
         })
     }
+
+    /// Which descriptor it is for.
+    pub fn descriptor(&self) -> Fd
+        ensures value { result ≡ self.now }
+        ensures small { result < DESCRIPTORS }
+    {
+        self.fd
+    }
 }

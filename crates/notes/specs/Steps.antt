@@ -408,6 +408,17 @@ HasPlaces chosen (Share_slot pid f d pipes) p = kept_at p.slots pid ≢ None
 HasPlaces chosen (Clear_slot pid f pipes) p = kept_at p.slots pid ≢ None
 HasPlaces chosen _ p = ⊥
 
+-- whether an edit is of a slot, and whether a place is for this slot
+abbrev pub NeedsPlace : Edit → Type 0
+NeedsPlace (Set_offset d place) = ⊥
+NeedsPlace _ = ⊤
+
+abbrev pub IsPlaceOf : Edit → ℕ → Type 0
+IsPlaceOf (Open_inode i inode mode pid f) place = place ≡ f
+IsPlaceOf (Share_slot pid f d pipes) place = place ≡ f
+IsPlaceOf (Clear_slot pid f pipes) place = place ≡ f
+IsPlaceOf _ place = ⊥
+
 -- whether an edit is of a description or a slot
 abbrev pub is_last : Edit → Bool
 is_last (Open_inode i inode mode pid f) = true
