@@ -27,3 +27,9 @@ abbrev pub IsNotedFrom : Given → ℕ → Option ℕ → Type 0
 IsNotedFrom patch first (Some f) = (first ≤ f) × (get patch f ≢ None)
     × ((g : ℕ) → first ≤ g → g < f → get patch g ≡ None)
 IsNotedFrom patch first None = (g : ℕ) → first ≤ g → get patch g ≡ None
+
+-- the lowest from this one on that is open, or there is none
+abbrev pub IsOpenFrom : FinMap nat_cmp ℕ → ℕ → Option ℕ → Type 0
+IsOpenFrom table first (Some f) = (first ≤ f) × (get table f ≢ None)
+    × ((g : ℕ) → first ≤ g → g < f → get table g ≡ None)
+IsOpenFrom table first None = (g : ℕ) → first ≤ g → get table g ≡ None

@@ -4,12 +4,12 @@
 //! A table grows with its descriptors, in pages of 64, and tells the lowest free one by words of bits.
 #![tactic(auto)]
 
-ghost use Rattle.std.specs.Prelude.{◌≡◌, ◌≢◌, ◌<◌, ◌≤◌, ℕ, None, IfOk, IsSome, OnErr, OnOk};
+ghost use Rattle.std.specs.Prelude.{◌≡◌, ◌≢◌, ◌<◌, ◌≤◌, ℕ, None, IfOk, IfSome, IsSome, OnErr, OnOk};
 ghost use Rattle.std.specs.Prelude.{◌==◌, count_by};
 ghost use Rattle.std.specs.Ordering.{nat_cmp};
 ghost use Rattle.model.specs.FiniteMap as map;
 ghost use Rattle.ids.specs.declared.limits.TheConstants.{DESCRIPTORS};
-ghost use Rattle.fdtable.specs.Lowest.{AreTwoLowest, IsFree, IsLowest};
+ghost use Rattle.fdtable.specs.Lowest.{AreTwoLowest, IsFree, IsLowest, IsOpenFrom};
 ghost use Rattle.fdtable.specs.Open.{one_if};
 ghost use Rattle.fdtable.specs.Pages.{HasRoom, given_at};
 
@@ -126,6 +126,14 @@ impl FdTable {
         Ok(FdTable {
             pages: self.pages.try_clone(heap)?,
         })
+    }
+
+    /// The lowest open descriptor from this one on; `None` where none is.
+    pub fn open_from(&self, first: u32) -> Option<Fd>
+        ensures value { IsOpenFrom self.now first result }
+        ensures small { IfSome result (λ fd. fd < DESCRIPTORS) }
+    {
+        self.pages.open_from(first)
     }
 
     /// Below this number is every open descriptor.

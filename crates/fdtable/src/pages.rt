@@ -1,11 +1,12 @@
 // The descriptors of a process in pages, and which pages are full.
 ghost use Rattle.std.specs.Prelude.{◌≡◌, ◌≢◌, ◌+◌, ◌*◌, ◌/◌, ◌<◌, ◌≤◌, ◌⊎◌, ◌||◌, ℕ, None, false};
-ghost use Rattle.std.specs.Prelude.{IfOk, IsSome, OnOk, get_or, length};
+ghost use Rattle.std.specs.Prelude.{IfOk, IfSome, IsSome, OnOk, get_or, length};
 ghost use Rattle.std.specs.List.{set};
 ghost use Rattle.std.specs.Int.{bit_at};
 ghost use Rattle.std.specs.Option.{is_some};
 ghost use Rattle.model.specs.FiniteMap as map;
 ghost use Rattle.ids.specs.declared.limits.TheConstants.{DESCRIPTORS};
+ghost use Rattle.fdtable.specs.Lowest.{IsOpenFrom};
 ghost use Rattle.fdtable.specs.Pages.{HasRoom, given_at, most_pages, or_other};
 ghost use Rattle.fdtable.specs.Words.{as_bit};
 
@@ -98,6 +99,24 @@ impl Pages {
             Some(bit) => index * PAGE_LEN + bit,
             None => unreachable!(),
         }
+    }
+
+    /// The lowest descriptor from this one on that is open.
+    pub(crate) fn open_from(&self, first: u32) -> Option<Fd>
+        ensures value { IsOpenFrom self.now.slots first result }
+        ensures small { IfSome result (λ fd. fd < DESCRIPTORS) }
+    {
+        let start = first as usize / PAGE_LEN;
+        for index in start..self.each.len() {
+            let mut word = !self.word(index);
+            if index == start {
+                word = filled_below(word, first as usize % PAGE_LEN);
+            }
+            if let Some(bit) = lowest_clear(word) {
+                return Some(Fd((index * PAGE_LEN + bit) as u32));
+            }
+        }
+        None
     }
 
     // Pages up to this one are there, with a bit for each.

@@ -121,6 +121,13 @@ impl SlotPatch {
         put(&mut self.given, self.closed.as_mut_slice(), fd, given);
     }
 
+    /// For the proof: only descriptors that a process may have are noted.
+    pub fn noted_are_low(&self)
+        ensures { (f : ℕ) → map.get self.now f ≢ None → f < DESCRIPTORS }
+    {
+        let _given = &self.given;
+    }
+
     /// The lowest descriptor from this one on of which something is noted.
     pub fn noted_from(&self, first: u32) -> Option<Fd>
         ensures value { IsNotedFrom self.now first result }

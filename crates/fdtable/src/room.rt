@@ -1,9 +1,10 @@
 // Memory for descriptors that are still to be opened.
-ghost use Rattle.std.specs.Prelude.{◌≡◌, ◌<◌, ◌⊎◌, ℕ, IfOk, OnOk};
+ghost use Rattle.std.specs.Prelude.{◌≡◌, ◌≢◌, ◌<◌, ◌⊎◌, ℕ, None, IfOk, OnOk};
 ghost use Rattle.model.specs.FiniteMap as map;
 ghost use Rattle.ids.specs.declared.limits.TheConstants.{DESCRIPTORS};
 ghost use Rattle.fdtable.specs.Pages.{HasRoom};
 
+use crate::FdTable;
 use crate::pages::Pages;
 use crate::words::reach;
 use heap::Heap;
@@ -44,6 +45,19 @@ impl SlotRoom {
     {
         let mut room = SlotRoom::new(heap);
         room.promise(fd)?;
+        Ok(room)
+    }
+
+    /// Room for all that a table has open. Refused memory gives nothing.
+    pub fn like(heap: Heap, table: &FdTable) -> Result<SlotRoom, AllocError>
+        ensures { IfOk result (λ room. (f : ℕ) → map.get table.now f ≢ None → HasRoom room f) }
+    {
+        let mut room = SlotRoom::new(heap);
+        let mut from = 0;
+        while let Some(fd) = table.open_from(from) {
+            room.promise(fd)?;
+            from = fd.0 + 1;
+        }
         Ok(room)
     }
 

@@ -202,7 +202,7 @@ process_after chosen _ pid o = o
 pub record Applies (chosen : List ℕ) (e : Edit) (k after : Kernel) : Type 0 where
   pub root : after.root ≡ k.root
   pub made : after.made ≡ k.made
-  pub largest : after.largest ≡ k.largest
+  pub bounds : after.bounds ≡ k.bounds
   pub inodes : (n : ℕ) → get after.inodes n ≡ inode_after chosen e n (get k.inodes n)
   pub rights : (n : ℕ) → get after.rights n ≡ rights_after e n (get k.rights n)
   pub descriptions : (d : ℕ)

@@ -170,7 +170,7 @@ module _ (ps : Processes) (pid f : ℕ) (given former : Option ℕ) (new : Proce
       descriptions = less.descriptions ∙ more.descriptions;
       reserves = λ n. less.reserves n ∙ more.reserves n;
       count = same_count ps pid (Some new) some low;
-      largest = refl;
+      bounds = refl;
       low = low_now;
       counted = counted_now;
     };

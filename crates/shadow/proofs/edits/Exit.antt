@@ -129,7 +129,7 @@ module _ (ps qs : Processes) (s t : Numbers) (pid : ℕ) (pipes : List ℕ) (sou
         descriptions = descriptions s;
         processes = left_processes i;
         made = left_count i;
-        largest = laid.stay.largest i;
+        bounds = laid.stay.bounds i;
       })
 
   left_counted : AreCounted left t

@@ -183,7 +183,7 @@ module _ (ps qs : Processes) (s t : Numbers) (parent : ℕ) (pipes : List ℕ) (
         descriptions = descriptions s;
         processes = processes_now i;
         made = count_now i;
-        largest = laid.stay.largest i;
+        bounds = laid.stay.bounds i;
       })
 
   pub forked_sound : Sound qs t

@@ -95,7 +95,7 @@ module _ (ps qs : Processes) (s t : Numbers) (pid f : ℕ) (given : Option ℕ)
         descriptions = descriptions s;
         processes = processes_are i;
         made = laid.stay.count i;
-        largest = laid.stay.largest i;
+        bounds = laid.stay.bounds i;
       })
 
   pub slotted_keeps : (c : Claim) → kept_in t c ≡ kept_in s c

@@ -10,13 +10,13 @@ there ps qs given pid shown same living = is_process ps given (λ none. living (
 
 pub overflow_sub-pid-inside : goal.overflow_sub-pid-inside
 overflow_sub-pid-inside c =
-    let ps : Processes = record { list = c.self.inside.list.items; largest = c.self.inside.largest } in
+    let ps : Processes = record { list = c.self.inside.list.items; bounds = c.self.inside.bounds } in
     let is : IsProcess ps c.pid.inside.0 = there ps c.args.self.now c.pid.inside.0 c.args.pid c.self.view_is c.pid.view_is c.requires in
     is.some
 
 pub index_mut-requires : goal.index_mut-requires
 index_mut-requires c =
-    let ps : Processes = record { list = c.self.inside.list.items; largest = c.self.inside.largest } in
+    let ps : Processes = record { list = c.self.inside.list.items; bounds = c.self.inside.bounds } in
     let is : IsProcess ps c.pid.inside.0 = there ps c.args.self.now c.pid.inside.0 c.args.pid c.self.view_is c.pid.view_is c.requires in
     let some : 0 < c.pid.inside.0 = is.some in
     let low : c.pid.inside.0 ≤ length ps.list = is.low in

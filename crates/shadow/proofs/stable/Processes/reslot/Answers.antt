@@ -27,7 +27,7 @@ overflow_sub-index c =
 
 pub index-requires : goal.index-requires
 index-requires c =
-    let ps : Processes = record { list = c.self.inside.list.items; largest = c.self.inside.largest } in
+    let ps : Processes = record { list = c.self.inside.list.items; bounds = c.self.inside.bounds } in
     let is : IsProcess ps c.pid.inside.0 = there ps c.args.self.now c.pid.inside.0 c.args.pid c.self.view_is c.pid.view_is c.requires.pid in
     let some : 0 < c.pid.inside.0 = is.some in
     let low : c.pid.inside.0 ≤ length ps.list = is.low in
@@ -36,7 +36,7 @@ index-requires c =
 
 pub index_mut-requires : goal.index_mut-requires
 index_mut-requires c =
-    let ps : Processes = record { list = c.self.inside.list.items; largest = c.self.inside.largest } in
+    let ps : Processes = record { list = c.self.inside.list.items; bounds = c.self.inside.bounds } in
     let is : IsProcess ps c.pid.inside.0 = there ps c.args.self.now c.pid.inside.0 c.args.pid c.self.view_is c.pid.view_is c.requires.pid in
     let some : 0 < c.pid.inside.0 = is.some in
     let low : c.pid.inside.0 ≤ length ps.list = is.low in
@@ -45,19 +45,19 @@ index_mut-requires c =
 
 pub give-requires-clause-there : goal.give-requires-clause-there
 give-requires-clause-there c = λ none.
-    let ps : Processes = record { list = c.self.inside.list.items; largest = c.self.inside.largest } in
+    let ps : Processes = record { list = c.self.inside.list.items; bounds = c.self.inside.bounds } in
     c.requires.pid (sym (reads ps c.args.self.now c.pid.inside.0 c.args.pid c.self.view_is c.pid.view_is c.requires.pid c.index_mut.result.now c.index_mut.ensures.value) ∙ none)
 
 pub returns-clause-former : goal.returns-clause-former
 returns-clause-former c =
-    let ps : Processes = record { list = c.self.inside.list.items; largest = c.self.inside.largest } in
+    let ps : Processes = record { list = c.self.inside.list.items; bounds = c.self.inside.bounds } in
     c.slot_of-former.ensures
     ∙ ap (λ o. get (table_in o) c.args.fd)
     (reads ps c.args.self.now c.pid.inside.0 c.args.pid c.self.view_is c.pid.view_is c.requires.pid c.index.result.now c.index.ensures)
 
 pub returns-clause-slot : goal.returns-clause-slot
 returns-clause-slot c =
-    let ps : Processes = record { list = c.self.inside.list.items; largest = c.self.inside.largest } in
+    let ps : Processes = record { list = c.self.inside.list.items; bounds = c.self.inside.bounds } in
     let new : Option Process = slot_noted c.args.fd c.args.given (get (numbered c.args.self.now) c.args.pid) in
     ap (λ (now : Option Process). with_process c.pid.inside.0 now ps)
     (c.give.ensures ∙ ap (slot_noted c.args.fd c.args.given)

@@ -8,7 +8,7 @@ use Rattle.notes.specs.Steps.{TakesIn}
 use Rattle.notes.proofs.OffsetEdits.{piping_takes}
 use Rattle.notes.proofs.InodeNotes.{same_then_takes, with_places}
 use Rattle.notes.proofs.PipeEdits.{piping_at}
-use Rattle.notes.proofs.pipes.Patches.make_pipe.Goals as goal
+use Rattle.notes.proofs.patches.Patches.make_pipe.Goals as goal
 
 pub returns-clause-ok : goal.returns-clause-ok
 returns-clause-ok c =
