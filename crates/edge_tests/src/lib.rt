@@ -10,6 +10,7 @@ mod jobs;
 #[cfg(test)]
 mod of_device;
 #[cfg(test)]
+mod of_bounds;
 mod of_file_limits;
 #[cfg(test)]
 mod of_hostile;
