@@ -294,10 +294,10 @@ impl Tests {
         for fd in 0..100 {
             assert_eq!(process.open("/a", WRONLY | CREAT), Ok(fd));
         }
-        assert_eq!(process.dup(0), refused("EMFILE"));
-        assert_eq!(process.dup2(0, 100), refused("EBADF"));
+        assert_eq!(process.dup(0), refused(EMFILE));
+        assert_eq!(process.dup2(0, 100), refused(EBADF));
         process.mkdir("/abcd")?;
-        assert_eq!(process.mkdir("/abcde"), refused("ENAMETOOLONG"));
+        assert_eq!(process.mkdir("/abcde"), refused(ENAMETOOLONG));
         assert_eq!(kernel.close().expect("it ends"), End { status: Some(0), checked: true });
         Ok(())
     }

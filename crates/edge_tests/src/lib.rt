@@ -11,6 +11,7 @@ mod jobs;
 mod of_device;
 #[cfg(test)]
 mod of_bounds;
+#[cfg(test)]
 mod of_file_limits;
 #[cfg(test)]
 mod of_hostile;
