@@ -148,12 +148,12 @@ struct kagzuvis_answer {
 
 struct kagzuvis_options {
     const char *priorities;    /* a digit from 0 to 7 for each process that is made at the start, as "00" for two */
-    unsigned long limit;       /* the program's --limit, --file-limit, --descriptors and --path-limit; 0: not given */
+    unsigned long limit;       /* the program's --limit and --file-limit; 0: not given */
     unsigned long file_limit;
-    unsigned long descriptors;
-    unsigned long path_limit;
     int check;                 /* the program's --check */
     FILE *trace;               /* to which the line of each answer is written, or NULL */
+    unsigned long descriptors; /* the program's --descriptors and --path-limit; 0: not given */
+    unsigned long path_limit;
 };
 
 struct kagzuvis_end {
