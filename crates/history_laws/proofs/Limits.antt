@@ -16,11 +16,13 @@ use Rattle.model.specs.Plans.{Change, changed, unchanged, absent, status, is_spe
 use Rattle.model.specs.Steps.{outcome, edits, edits_of, Step, Item, Run}
 use Rattle.model.specs.Moments.{Setup, start, after}
 use Rattle.call_laws.proofs.Laws.{the_bounds_stay, get_retained, reached, get_tidy, write_pipe, put_at, after_bind, whatever, allowed, either_given}
+use Rattle.call_laws.specs.WellFormed.{WellFormed}
 use Rattle.model.proofs.Laws.{length-sized, length-written, get_same, get_other}
 use Rattle.history_laws.proofs.FromCallLaws.{FromCallLaws}
 use Rattle.history_laws.specs.Limits.{most_processes, target_limit, IsWithinLimits, LimitsAreKept}
 use Rattle.history_laws.proofs.Beginnings.{legality_follows}
-use Rattle.history_laws.proofs.Histories.{serial_is}
+use Rattle.history_laws.proofs.Histories.{serial_is, views}
+use Rattle.history_laws.proofs.Standing.{what_stands}
 
 -- what keeps a state within the limits: new inodes, new descriptions, new processes
 set_within : (k : Kernel) (n : ℕ) (inode : Inode) → length (file_of_inode (Some inode)) ≤ k.bounds.file_bytes → length (pipe_of_inode (Some inode)) ≤ capacity → length (target_of_inode (Some inode)) ≤ target_limit → IsWithinLimits k → IsWithinLimits (set_inode n inode k)
@@ -396,8 +398,11 @@ run_within k l (it ∷ items) run w = run_within run.0 l items run.2 (step_withi
 
 pub limits : FromCallLaws LimitsAreKept
 limits laws root setup limit es legal few =
+    let stands = what_stands laws root setup limit es legal in
     let committed : IsWithinLimits (after root setup es).committed = run_within (start root setup) (after root setup es).committed _ (serial_is laws root setup limit es legal) (start_within root setup few) in
     record {
       committed = committed;
       seen = λ pid. run_within (after root setup es).committed _ _ (legality_follows.runs root setup limit es legal pid) committed;
+      descriptors = stands.committed.well.low;
+      seen_descriptors = λ pid. (subst WellFormed (sym (views laws root setup limit es legal pid).seen) (laws.well_tidy _ (stands.lists pid).well)).low;
     }

@@ -44,7 +44,8 @@ pub fn committed_directories_are_a_tree()
     ensures { CommittedDirectoriesAreATree }
 {}
 
-/// No file, pipe or offset is ever larger than it may be, and no more processes are made.
+/// No file, pipe or offset is ever larger than it may be, no descriptor is at or above the kernel's own
+/// number of them, and no more processes are made.
 /// Proved in `proofs/Limits.antt`.
 pub fn limits_are_kept()
     ensures { LimitsAreKept }

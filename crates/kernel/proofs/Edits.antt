@@ -20,7 +20,7 @@ use Rattle.model.specs.Plans.{Change, duplicated, plan, status as told_status, a
 use Rattle.model.specs.Steps.{edits, edits_of, reply, reply_of}
 use Rattle.ids.specs.Flags.{is_reading, is_writing, is_creating, is_exclusive, is_truncating}
 use Rattle.model.proofs.Laws.{all_entries}
-use Rattle.call_laws.specs.WellFormed.{WellFormed}
+use Rattle.call_laws.specs.WellFormed.{WellFormed, most_descriptors}
 use Rattle.call_laws.proofs.Laws.{after_bind, allowed, either_given, weaken, whatever}
 use Rattle.notes.specs.Steps.{CanEdit}
 
@@ -59,7 +59,7 @@ found k f (e ∷ es) low = by_test (e.0 == f) refl (found k f es low.1)
 
 module _ (k : Kernel) (pid : ℕ) (well : WellFormed k) where
   opened_slot : (call : Call) (f : ℕ) → IfOk (given k (slot (own k pid call) f)) (λ it. f < descriptor_limit)
-  opened_slot call f = found k f (entries (process_of k pid).table) (all_entries nat_cmp_total (λ g d. g < descriptor_limit) (process_of k pid).table (λ g d is. well.low pid g d is))
+  opened_slot call f = found k f (entries (process_of k pid).table) (all_entries nat_cmp_total (λ g d. g < descriptor_limit) (process_of k pid).table (λ g d is. let low : g < most_descriptors k = well.low pid g d is in omega arith))
 
   -- of a call on an open descriptor
   on : (call : Call) (f : ℕ) (m : Slot → Plan Change) → ((it : Slot) → f < descriptor_limit → IfOk (given k (m it)) Edits) → IfOk (given k (slot (own k pid call) f >>= m)) Edits

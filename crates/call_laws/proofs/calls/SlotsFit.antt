@@ -12,7 +12,7 @@ use Rattle.model.specs.Plans.{Change, open_limit, changed, unchanged, slot_at, p
 use Rattle.model.specs.Steps.{IsNowhere, AllDifferent, CanBeChosen}
 use Rattle.model.proofs.Laws.{append-all}
 use Rattle.call_laws.specs.Objects.{IsThere}
-use Rattle.call_laws.specs.WellFormed.{descriptor_limit, WellFormed}
+use Rattle.call_laws.specs.WellFormed.{most_descriptors, WellFormed}
 use Rattle.call_laws.specs.Fits.{FitsAll, CanShare, IsOpenSlot, IsAlive, ListsPipe, table_of}
 use Rattle.call_laws.proofs.Maps.{not_none, some_same}
 use Rattle.call_laws.proofs.edits.Names.{has_names, named_counted}
@@ -44,7 +44,7 @@ module _ (k : Kernel) (well : WellFormed k) (pid : ℕ) (alive : IsAlive k pid) 
   held_number : (f : ℕ) (s : Slot) (held : Held k pid f s) → s.description ≡ held.description
   held_number f s held = ap (λ s. s.description) held.slot ∙ number_in_slot k held.description (get k.descriptions held.description)
 
-  share_at : (f g : ℕ) (s : Slot) (pipes : List ℕ) → Held k pid f s → g < descriptor_limit → ListsPipe k pipes s.description → ((e : ℕ) → get (table_of k pid) g ≡ Some e → ListsPipe k pipes e) → CanShare k pid g s.description pipes
+  share_at : (f g : ℕ) (s : Slot) (pipes : List ℕ) → Held k pid f s → g < most_descriptors k → ListsPipe k pipes s.description → ((e : ℕ) → get (table_of k pid) g ≡ Some e → ListsPipe k pipes e) → CanShare k pid g s.description pipes
   share_at f g s pipes held low comes goes = record { alive = alive; from = f; held = held.gives ∙ ap Some (sym (held_number f s held)); low = low; comes = comes; goes = goes }
 
   listed_here : (f : ℕ) (s : Slot) → Held k pid f s → ListsPipe k (pipe_in (Some s)) s.description

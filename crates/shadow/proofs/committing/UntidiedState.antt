@@ -34,6 +34,7 @@ use Rattle.shadow.specs.Stored.{AreCounted, IsEndHere, Processes, committed_of, 
 use Rattle.notes.specs.declared.opening.Opening.{Opening}
 use Rattle.notes.specs.declared.opening.Opening.TheVariants.{New}
 use Rattle.shadow.proofs.committing.CommitStates.{CanCommit, HasAll, HasInodes}
+use Rattle.shadow.proofs.committing.SlotSteps.{well_low}
 use Rattle.shadow.proofs.claims.ClaimCounts.{at_place, met_is}
 use Rattle.shadow.proofs.shared.PipePairLemmas.{end_of}
 
@@ -243,7 +244,7 @@ module _ {ps qs : Processes} {s mid after last : Numbers} {ds : List Effect} {p 
 
   counted : AreCounted qs last
   counted =
-      slotted.stay.counted can.sound.well.low (opened.counted ps made.counted unheld ends_here)
+      slotted.stay.counted (well_low ps s can.sound.well) (opened.counted ps made.counted unheld ends_here)
 
   holds : Holds qs last
   holds = record {
