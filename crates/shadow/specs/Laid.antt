@@ -3,10 +3,9 @@ use Rattle.std.specs.Prelude.{◌≡◌, ◌≢◌, ℕ, ◌<◌, ◌≤◌, ◌
 use Rattle.std.specs.Prelude.{⊤, length, Option, Some, None, IfSome, is_some, option_map, count_by}
 use Rattle.ids.specs.declared.limits.TheConstants.{DESCRIPTORS, PIPE_CAPACITY}
 use Rattle.std.specs.Prelude.{if◌then◌else◌}
-use Rattle.std.specs.Prelude.{map as list_map}
 use Rattle.std.specs.Ordering.{nat_cmp}
 use Rattle.std.specs.List.{AllByRecursion, flat_map}
-use Rattle.model.specs.FiniteMap.{FinMap, entries, from_entries, get}
+use Rattle.model.specs.FiniteMap.{FinMap, entries, get}
 use Rattle.model.specs.State.{Description, Kernel, Kind, Name, Process, Rights, kind_of, names_of}
 use Rattle.model.specs.Changes.{Edit, Open_inode, Share_slot, holders, openings, or_new}
 use Rattle.dirlist.specs.Listing.{Listing}
@@ -216,6 +215,10 @@ IsMoreBy patch d before after =
 abbrev pub IsLessBy : Given → ℕ → ℕ → ℕ → Type 0
 IsLessBy former d before after = after ≡ before - giving former d
 
+-- and after as many less as it stands in a list
+abbrev pub IsLessOf : List ℕ → ℕ → ℕ → ℕ → Type 0
+IsLessOf ds d before after = after ≡ before - times d ds
+
 -- an edit that opens a slot, for which memory may be asked for, and room for that slot
 abbrev pub MayNeedRoom : Edit → Type 0
 MayNeedRoom (Open_inode i inode mode pid f) = ⊤
@@ -226,10 +229,6 @@ abbrev pub FitsRoom : Edit → List Bool → Type 0
 FitsRoom (Open_inode i inode mode pid f) room = HasRoom room f
 FitsRoom (Share_slot pid f d pipes) room = HasRoom room f
 FitsRoom _ room = ⊥
-
--- what a table gives, as notes
-abbrev pub noted : FinMap nat_cmp ℕ → Given
-noted table = from_entries (list_map (λ e. (e.0, Some e.1)) (entries table))
 
 -- A description that is shown was shown before, and its count of holders changed so.
 pub record WasHeld (R : ℕ → ℕ → Type 0) (old : Numbers) (d : ℕ) (opened : Opened) : Type 0 where

@@ -2,12 +2,12 @@
 ghost use Rattle.std.specs.Prelude.{◌≡◌, ◌≢◌, ◌<◌, ◌^◌, [], ℕ, None, Some, length};
 ghost use Rattle.std.specs.Prelude.{IfOk, IfSome, IsOk, IsSome, OnErr, OnOk};
 ghost use Rattle.ids.specs.declared.limits.TheConstants.{DESCRIPTORS};
-ghost use Rattle.model.specs.FiniteMap.{entries, get};
+ghost use Rattle.model.specs.FiniteMap.{entries, get, values};
 ghost use Rattle.fdtable.specs.Pages.{HasRoom};
 ghost use Rattle.fdtable.specs.Patches.{IsFormer};
 ghost use Rattle.store.specs.Numbers.{Numbers};
-ghost use Rattle.shadow.specs.Laid.{AreHeld, AreReslotted, IsLessBy, IsMoreBy, IsOneLess, IsOneMore};
-ghost use Rattle.shadow.specs.Laid.{IsReslotted, IsSlotted, noted, table_in};
+ghost use Rattle.shadow.specs.Laid.{AreHeld, AreReslotted, IsLessBy, IsLessOf, IsMoreBy, IsOneLess};
+ghost use Rattle.shadow.specs.Laid.{IsOneMore, IsReslotted, IsSlotted, table_in};
 ghost use Rattle.notes.specs.Openings.{AreOnce, AreRoomy, slot_noted};
 ghost use Rattle.shadow.specs.Stored.{numbered, with_process};
 ghost use Rattle.notes.specs.Patches.{kept_at, reslotted, slots_in};
@@ -94,7 +94,7 @@ fn let_go(store: &mut Store, former: &SlotPatch)
 
 /// Counts for each description one slot less for each descriptor of a table that is open on it.
 pub(crate) fn let_all_go(store: &mut Store, table: &FdTable)
-    ensures { AreHeld (IsLessBy (noted table.now)) store.old store.new }
+    ensures { AreHeld (IsLessOf (values table.now)) store.old store.new }
 {
     let mut from = 0;
     while let Some(fd) = table.open_from(from) {
