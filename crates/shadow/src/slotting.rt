@@ -192,9 +192,12 @@ impl Stable {
         ensures closing { given ≡ None → IsOk result }
     {
         let former = lay_slot(&mut self.store, &mut self.processes, pid, fd, given, room)?;
-        if let Some(description) = former {
-            close(&mut self.store, description);
+        match former {
+            Some(description) => {
+                close(&mut self.store, description);
+                Ok(())
+            }
+            None => Ok(()),
         }
-        Ok(())
     }
 }

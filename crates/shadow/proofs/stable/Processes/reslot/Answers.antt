@@ -49,13 +49,13 @@ here c =
     sym c.in-Some.is
     ∙ reads ps c.args.self.now c.pid.inside.0 c.args.pid c.self.view_is c.pid.view_is c.requires.pid c.index_mut.result.now c.index_mut.ensures.value
 
-pub returns-clause-former : goal.returns-clause-former
-returns-clause-former c =
+pub returns-in-Some-clause-former : goal.returns-in-Some-clause-former
+returns-in-Some-clause-former c =
     subst (λ (o : Option Process). IfOk c.give_in.result (λ former. former ≡ get (table_in o) c.args.fd))
     (here c) c.give_in.ensures.former
 
-pub returns-clause-slot : goal.returns-clause-slot
-returns-clause-slot c =
+pub returns-in-Some-clause-slot : goal.returns-in-Some-clause-slot
+returns-in-Some-clause-slot c =
     let ps : Processes = record { list = c.self.inside.list.items; bounds = c.self.inside.bounds } in
     let new : Option Process = slot_noted c.args.fd c.args.given (get (numbered c.args.self.now) c.args.pid) in
     ok_so c.give_in.result (λ is.

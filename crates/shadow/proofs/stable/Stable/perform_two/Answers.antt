@@ -28,11 +28,11 @@ sure c = c.perform_last.ensures.sure
     (subst (λ r. IfOk r (λ room. MayNeedRoom c.args.last.now → IsSome room)) c.in-Ok.is
     c.room_for.ensures.there)
 
-pub returns-clause-err : goal.returns-clause-err
-returns-clause-err c = not_refused c.perform_last.result (sure c)
+pub returns-in-Ok-clause-err : goal.returns-in-Ok-clause-err
+returns-in-Ok-clause-err c = not_refused c.perform_last.result (sure c)
 
-pub returns-clause-same : goal.returns-clause-same
-returns-clause-same c = not_refused c.perform_last.result (sure c)
+pub returns-in-Ok-clause-same : goal.returns-in-Ok-clause-same
+returns-in-Ok-clause-same c = not_refused c.perform_last.result (sure c)
 
 pub perform_first-requires-clause-covers : goal.perform_first-requires-clause-covers
 perform_first-requires-clause-covers c =
@@ -58,16 +58,16 @@ perform_last-requires-clause-covers c =
     c.perform_first.new.self c.state_is_tidied.ensures
     c.in_ok-perform_first.ensures.state c.in_ok-perform_first.ensures.kept
 
-pub returns-clause-state : goal.returns-clause-state
-returns-clause-state c = ok_so c.perform_last.result (λ made.
+pub returns-in-Ok-clause-state : goal.returns-in-Ok-clause-state
+returns-in-Ok-clause-state c = ok_so c.perform_last.result (λ made.
     both_made c.args.self.now c.args.chosen.now c.args.first c.args.last.now
     c.requires.kinds c.requires.count c.requires.fits c.requires.covers
     c.perform_first.new.self c.state_is_tidied.ensures
     c.in_ok-perform_first.ensures.state c.in_ok-perform_first.ensures.kept
     c.perform_last.new.self made) c.perform_last.ensures.state
 
-pub returns-clause-kept : goal.returns-clause-kept
-returns-clause-kept c = ok_so c.perform_last.result (λ kept.
+pub returns-in-Ok-clause-kept : goal.returns-in-Ok-clause-kept
+returns-in-Ok-clause-kept c = ok_so c.perform_last.result (λ kept.
     both_kept c.args.self.now c.args.chosen.now c.args.first c.args.last.now
     c.requires.kinds c.requires.count c.requires.fits c.requires.covers
     c.perform_first.new.self c.state_is_tidied.ensures

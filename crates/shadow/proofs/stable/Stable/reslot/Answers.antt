@@ -48,13 +48,13 @@ invariant_of-self c =
     (Some c.in-Some.description) (sym c.in-Some.is ∙ c.in_ok-former.ensures.former)
     c.close.new.store (closes c)
 
-pub invariant_of-self-in_default : goal.invariant_of-self-in_default
-invariant_of-self-in_default c =
+pub invariant_of-self-in-None : goal.invariant_of-self-in-None
+invariant_of-self-in-None c =
     let ps = c.self.inside.processes in let qs = c.lay_slot.new.processes
     in let s = c.self.inside.store in let t = c.lay_slot.new.store in
     slotted_sound ps qs s t c.args.pid c.args.fd c.args.given c.requires.fits.0 c.self.invariant
     c.in_ok-former.ensures.laid c.args.self.now c.self.view_is c.requires.fits.1
-    None (sym c.in_default.is ∙ c.in_ok-former.ensures.former) t
+    None (sym c.in-None.is ∙ c.in_ok-former.ensures.former) t
     (frees_nothing qs t (slotted_holds ps qs s t c.args.pid c.args.fd c.args.given c.requires.fits.0
     c.self.invariant c.in_ok-former.ensures.laid c.args.self.now c.self.view_is
     c.requires.fits.1
@@ -78,19 +78,19 @@ returns-in-Some-clause-kept c =
     ∙ slotted_keeps ps qs s c.lay_slot.new.store c.args.pid c.args.fd c.args.given
     c.in_ok-former.ensures.laid claim)
 
-pub returns-in_default-clause-state : goal.returns-in_default-clause-state
-returns-in_default-clause-state c = λ pipes fits.
+pub returns-in-None-clause-state : goal.returns-in-None-clause-state
+returns-in-None-clause-state c = λ pipes fits.
     let ps = c.self.inside.processes in let qs = c.lay_slot.new.processes
     in let s = c.self.inside.store in let t = c.lay_slot.new.store in
     slotted_tidy ps qs s t c.args.pid c.args.fd c.args.given pipes c.self.invariant
     c.in_ok-former.ensures.laid c.args.self.now c.self.view_is fits
-    None (sym c.in_default.is ∙ c.in_ok-former.ensures.former) t
+    None (sym c.in-None.is ∙ c.in_ok-former.ensures.former) t
     (frees_nothing qs t (slotted_holds ps qs s t c.args.pid c.args.fd c.args.given pipes c.self.invariant
     c.in_ok-former.ensures.laid c.args.self.now c.self.view_is fits
     c.in_ok-former.former c.in_ok-former.ensures.former))
 
-pub returns-in_default-clause-kept : goal.returns-in_default-clause-kept
-returns-in_default-clause-kept c =
+pub returns-in-None-clause-kept : goal.returns-in-None-clause-kept
+returns-in-None-clause-kept c =
     let ps = c.self.inside.processes in let qs = c.lay_slot.new.processes
     in let s = c.self.inside.store in let t = c.lay_slot.new.store in
     same_of ps qs s c.args.self.now c.self.view_is t
