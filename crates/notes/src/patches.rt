@@ -101,7 +101,7 @@ impl Patches {
     ) -> Result<(), AllocError>
         requires last { (m : ℕ) × IsLast m edit.now × (m + news edit.now ≤ length chosen.now) }
         requires places { HasPlaces chosen.now edit.now self.old }
-        requires for { IfSome place (IsPlaceOf edit.now) }
+        requires fits { IfSome place (IsPlaceOf edit.now) }
         ensures ok { OnOk result (TakesIn chosen.now edit.now self.old self.new) }
         ensures err { OnErr result (self.new ≡ self.old) }
         ensures sure { NeedsPlace edit.now → IsSome place → IsOk result }
@@ -149,7 +149,7 @@ impl Patches {
     // A place for the descriptor that an edit changes, if it changes one. Refused memory gives none.
     fn slot_place(&self, edit: &Edit) -> Result<Option<SlotPlace>, AllocError>
         requires { (m : ℕ) × IsLast m edit.now }
-        ensures for { IfOk result (λ place. IfSome place (IsPlaceOf edit.now)) }
+        ensures fits { IfOk result (λ place. IfSome place (IsPlaceOf edit.now)) }
         ensures there { IfOk result (λ place. NeedsPlace edit.now → IsSome place) }
     {
         let heap = *self.unnamed_inodes.allocator();

@@ -152,7 +152,7 @@ impl Slots {
     ) -> Result<(), AllocError>
         requires place { kept_at self.old pid ≢ None }
         requires small { fd < DESCRIPTORS }
-        requires for { IfSome place (λ p. p ≡ fd) }
+        requires fits { IfSome place (λ p. p ≡ fd) }
         ensures ok { OnOk result (AtSlots pid fd given self.old self.new) }
         ensures err { OnErr result (self.new ≡ self.old) }
         ensures sure { IsSome place → IsOk result }
@@ -175,7 +175,7 @@ fn note_at(
     place: Option<SlotPlace>,
 ) -> Result<(), AllocError>
     requires small { fd < DESCRIPTORS }
-    requires for { IfSome place (λ p. p ≡ fd) }
+    requires fits { IfSome place (λ p. p ≡ fd) }
     ensures ok { OnOk result (patch.new ≡ insert patch.old fd given) }
     ensures room { OnOk result (HasRoom room.new fd) }
     ensures kept { (f : ℕ) → HasRoom room.old f → HasRoom room.new f }

@@ -37,9 +37,9 @@ module _ {A E S : Type 0} (r : Result A E) where
 pub slot_place-requires : goal.slot_place-requires
 slot_place-requires c = (news c.args.first, c.requires.kinds.2)
 
-pub note_last-requires-clause-for : goal.note_last-requires-clause-for
-note_last-requires-clause-for c =
-    subst (λ r. IfOk r (λ place. IfSome place (IsPlaceOf c.args.last.now))) c.in-Ok.is c.slot_place.ensures.for
+pub note_last-requires-clause-fits : goal.note_last-requires-clause-fits
+note_last-requires-clause-fits c =
+    subst (λ r. IfOk r (λ place. IfSome place (IsPlaceOf c.args.last.now))) c.in-Ok.is c.slot_place.ensures.fits
 
 pub returns-in-Ok-clause-err : goal.returns-in-Ok-clause-err
 returns-in-Ok-clause-err c = not_refused c.note_last.result
