@@ -1,5 +1,5 @@
 // What a transaction changed in the descriptors of one process.
-ghost use Rattle.std.specs.Prelude.{◌≡◌, ◌≢◌, ◌+◌, ◌*◌, ◌<◌, ◌≤◌, ℕ, None, IfOk, IfSome, OnErr, OnOk};
+ghost use Rattle.std.specs.Prelude.{◌≡◌, ◌≢◌, ◌+◌, ◌*◌, ◌<◌, ℕ, None, IfOk, IfSome, OnErr, OnOk};
 ghost use Rattle.std.specs.Prelude.{◌==◌, ◌/◌, Some, count_by, length};
 ghost use Rattle.std.specs.Int.{bit_at};
 ghost use Rattle.std.specs.Option.{is_none, is_some};

@@ -1,5 +1,5 @@
 -- What is said of options' values that are looked up in one way is said of those looked up in another.
-use Rattle.std.proofs.Common.{◌≡◌, ℕ, List, [], Option, Result, Ok, Err, Bool, sym, ◌∙◌, subst, inl, inr, codes, IfErr, IfOk}
+use Rattle.std.proofs.Common.{◌≡◌, List, [], Option, Result, Ok, Err, sym, ◌∙◌, subst, inl, inr, codes, IfErr, IfOk}
 use Rattle.clap.specs.Words.{Text, fault_of}
 use Rattle.words.specs.Txsh.{HasFileToo, HasLimits, HasNoFile, HasNotOneWay, IsFaultOf, IsFlag, IsLimit, IsStream, IsTask, IsTaskFault, IsWay, SameMatches, limits_in, number_in, txsh, value_in}
 use Rattle.words.specs.declared.CommandLineFault.{CommandLineFault}

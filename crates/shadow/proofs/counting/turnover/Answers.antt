@@ -2,7 +2,7 @@ use Rattle.std.proofs.Common.{◌≡◌, ◌≤◌, ◌<◌, ◌+◌, ◌*◌, �
 use Rattle.std.proofs.lemmas.List.{get_or_read}
 use Rattle.model.specs.FiniteMap.{empty, get, values}
 use Rattle.model.specs.State.{Kernel}
-use Rattle.model.specs.Changes.{holders, or_new, process_of}
+use Rattle.model.specs.Changes.{holders, process_of}
 use Rattle.freeing_laws.specs.Counts.{times}
 use Rattle.notes.specs.Openings.{AreOnce}
 use Rattle.notes.specs.Patches.{kept_at, reslotted}

@@ -1,6 +1,6 @@
 -- Pages without room have come, and nothing else.
-use Rattle.std.proofs.Common.{◌≡◌, ℕ, suc, ◌-◌, ◌≤◌, length}
-use Rattle.fdtable.specs.Pages.{AreMarked, HasRoom, PageContent, rooms_of, slots_of}
+use Rattle.std.proofs.Common.{◌≡◌, ℕ, suc, ◌-◌, length}
+use Rattle.fdtable.specs.Pages.{AreMarked, HasRoom, rooms_of, slots_of}
 use Rattle.model.specs.FiniteMap.{from_entries}
 use Rattle.model.specs.Places.{placed}
 use Rattle.fdtable.proofs.pages.Pages.reach.Given as goal

@@ -1,7 +1,7 @@
 -- The pages from here on have come: what is open in either, and the room of both.
-use Rattle.std.proofs.Common.{◌≡◌, ℕ, ◌*◌, ◌++◌, ◌<◌, ◌≤◌, ◌⊎◌, List, length}
+use Rattle.std.proofs.Common.{◌≡◌, ℕ, ◌*◌, ◌<◌, ◌≤◌, length}
 use Rattle.model.specs.FiniteMap.{get}
-use Rattle.fdtable.specs.Pages.{HasRoom, PageContent, or_other, rooms_of}
+use Rattle.fdtable.specs.Pages.{HasRoom, or_other}
 use Rattle.fdtable.proofs.pages.Pages.take_pages.Given as goal
 
 abbrev pub invariant-loop-page : goal.invariant-loop-page

@@ -1,7 +1,7 @@
 -- The changes below this number are laid, and what the table gave stands in their places; there is room
 -- for all others.
-use Rattle.std.proofs.Common.{◌≡◌, ◌≢◌, ℕ, ◌-◌, ◌<◌, ◌≤◌, None, Option}
-use Rattle.model.specs.FiniteMap.{FinMap, get}
+use Rattle.std.proofs.Common.{◌≡◌, ◌≢◌, ℕ, ◌-◌, ◌<◌, ◌≤◌, None}
+use Rattle.model.specs.FiniteMap.{get}
 use Rattle.model.specs.State.{mapped}
 use Rattle.ids.specs.declared.limits.TheConstants.{DESCRIPTORS}
 use Rattle.fdtable.specs.Pages.{HasRoom}

@@ -1,5 +1,5 @@
 -- There is room for all that are open below this number.
-use Rattle.std.proofs.Common.{◌≢◌, ℕ, ◌-◌, ◌<◌, ◌≤◌, None}
+use Rattle.std.proofs.Common.{◌≢◌, ℕ, ◌-◌, ◌<◌, None}
 use Rattle.model.specs.FiniteMap.{get}
 use Rattle.ids.specs.declared.limits.TheConstants.{DESCRIPTORS}
 use Rattle.fdtable.specs.Pages.{HasRoom}

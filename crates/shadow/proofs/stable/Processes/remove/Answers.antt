@@ -1,4 +1,4 @@
-use Rattle.std.proofs.Common.{◌≡◌, ◌≢◌, ◌≤◌, ◌∙◌, ◌<◌, ℕ, Option, None, Some, ◌-◌, length, get_or, sym, ap, arith, vec_len}
+use Rattle.std.proofs.Common.{◌≡◌, ◌≢◌, ◌≤◌, ◌∙◌, ◌<◌, ℕ, Option, None, ◌-◌, length, get_or, sym, ap, arith, vec_len}
 use Rattle.model.specs.FiniteMap.{get}
 use Rattle.model.specs.State.{Process}
 use Rattle.shadow.specs.Laid.{table_in}

@@ -1,5 +1,5 @@
 use Rattle.std.proofs.Common.{◌≡◌, ◌∙◌, [], List, ℕ, sym, ap, subst}
-use Rattle.model.specs.FiniteMap.{FinMap, get, values}
+use Rattle.model.specs.FiniteMap.{values}
 use Rattle.model.specs.Changes.{End_process, applied, tidy}
 use Rattle.call_laws.specs.Fits.{Fits}
 use Rattle.freeing_laws.specs.Sweep.{all_closed}

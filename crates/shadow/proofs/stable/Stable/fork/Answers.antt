@@ -1,4 +1,4 @@
-use Rattle.std.proofs.Common.{◌≡◌, ◌+◌, ◌∙◌, ℕ, [], None, Some, suc, length, sym, ap, subst, arith}
+use Rattle.std.proofs.Common.{◌≡◌, ◌+◌, ◌∙◌, ℕ, [], Some, suc, length, sym, ap, subst, arith}
 use Rattle.model.specs.FiniteMap.{get}
 use Rattle.model.specs.State.{Process, mapped}
 use Rattle.model.specs.Changes.{New_process, applied, process_of}
