@@ -1,6 +1,6 @@
 // The plain kernel: whole maps. How many names give each number is counted as names come and go, how
 // many descriptions open it and how many descriptors give each description likewise.
-ghost use Rattle.std.specs.Prelude.{◌≡◌, ◌+◌, ◌≤◌, nat_lt, IfOk, Some, None, option_copied};
+ghost use Rattle.std.specs.Prelude.{◌≡◌, ◌≢◌, ◌+◌, ◌<◌, ◌≤◌, ℕ, nat_lt, IfOk, Some, None, option_copied};
 ghost use Rattle.ids.specs.declared.limits.TheConstants.{LARGEST_FILE};
 ghost use Rattle.model.specs.FiniteMap.{get};
 ghost use Rattle.model.specs.State.{Kernel, Description as Opened, ends, is_end, links, kind_of};
