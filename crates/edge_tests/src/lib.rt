@@ -8,9 +8,9 @@ mod halting;
 #[cfg(test)]
 mod jobs;
 #[cfg(test)]
-mod of_device;
-#[cfg(test)]
 mod of_bounds;
+#[cfg(test)]
+mod of_device;
 #[cfg(test)]
 mod of_file_limits;
 #[cfg(test)]
