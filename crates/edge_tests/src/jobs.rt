@@ -10,7 +10,8 @@ use std::alloc::AllocError;
 use std::sync::Wait;
 use std::thread::Threads;
 use words::{
-    DEFAULT_DESCRIPTORS, DEFAULT_FILE_LIMIT, DEFAULT_PATH_LIMIT, Job, MAX_FILE_LIMIT, MAX_LIMIT, Way,
+    DEFAULT_DESCRIPTORS, DEFAULT_FILE_LIMIT, DEFAULT_PATH_LIMIT, Job, MAX_FILE_LIMIT, MAX_LIMIT,
+    Way,
 };
 
 // A schedule, or none for a run by threads, the limit, how many bytes the standard output takes, and

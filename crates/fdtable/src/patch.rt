@@ -72,7 +72,8 @@ impl SlotPatch {
 
     /// The changes that open what a table has open. Refused memory gives nothing.
     pub fn opening(heap: Heap, table: &FdTable) -> Result<SlotPatch, AllocError>
-        ensures { IfOk result (λ patch. (f : ℕ) → map.get patch f ≡ mapped Some (map.get table.now f)) }
+        ensures { IfOk result (λ patch. (f : ℕ)
+            → map.get patch f ≡ mapped Some (map.get table.now f)) }
     {
         let mut closed = Vec::new(heap);
         reach(&mut closed, table.pages.end().saturating_sub(1) as usize)?;
@@ -239,7 +240,8 @@ impl SlotPatch {
 
     // Below this number is all that is open with these changes on top of a table.
     fn end_over(&self, table: &FdTable) -> u32
-        ensures { (f : ℕ) → or_before (map.get self.now f) (map.get table.now f) ≢ None → f < result }
+        ensures { (f : ℕ) → or_before (map.get self.now f) (map.get table.now f) ≢ None
+            → f < result }
     {
         self.given.end().max(table.pages.end())
     }

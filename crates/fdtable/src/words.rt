@@ -89,7 +89,8 @@ pub(crate) fn reach(words: &mut Vec<u64, Heap>, bit: usize) -> Result<(), AllocE
 pub(crate) fn join(words: &mut Vec<u64, Heap>, mut other: Vec<u64, Heap>)
     requires { (i : ℕ) → bit_in other.items i ≡ 0 }
     ensures bits { (i : ℕ) → bit_in words.new.items i ≡ bit_in words.old.items i }
-    ensures long { length words.new.items ≡ max (length words.old.items) (length other.entry.items) }
+    ensures long { length words.new.items
+        ≡ max (length words.old.items) (length other.entry.items) }
 {
     if words.len() < other.len() {
         let len = words.len();

@@ -16,7 +16,9 @@ use crate::inodes::Inodes;
 use crate::table::Table;
 use crate::tree::Tree;
 use heap::Heap;
-use ids::{Bounds, Bytes, DESCRIPTORS, Fd, Kind, Name, NameList, Num, PIPE_CAPACITY, Pid, Rights, Slot};
+use ids::{
+    Bounds, Bytes, DESCRIPTORS, Fd, Kind, Name, NameList, Num, PIPE_CAPACITY, Pid, Rights, Slot,
+};
 use look::Look;
 use std::alloc::AllocError;
 use std::marker::Model;
