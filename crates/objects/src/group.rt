@@ -2,7 +2,7 @@
 ghost use Rattle.std.specs.Prelude.{◌≡◌, ◌≢◌, ℕ, ◌+◌, ◌<◌, ◌≤◌, ◌⊎◌, [], length, take, OnOk};
 ghost use Rattle.model.specs.Changes.{written};
 ghost use Rattle.objects.specs.Contents.{Content};
-ghost use Rattle.objects.specs.Pieces.{LaidIn, piece_in};
+ghost use Rattle.objects.specs.Pieces.{LaidIn, WipedIn, piece_in};
 ghost use Rattle.objects.specs.declared.group.TheConstants.{GROUP_LEN, PIECE_LEN};
 
 use crate::cell::Cell;
@@ -131,6 +131,25 @@ impl Group {
         if index < self.pieces.len() {
             self.pieces[index].shorten(len);
             self.pieces.truncate(index + 1);
+        }
+    }
+
+    /// Makes bytes of a piece zero, from one offset on, below another. The memory of a piece of which
+    /// nothing is left is given back. It takes none.
+    pub(crate) fn wipe(&mut self, index: usize, from: usize, to: usize)
+        requires { from ≤ to }
+        ensures here { WipedIn
+            from to (piece_in self.old index).bytes (piece_in self.new index).bytes }
+        ensures others { (i : ℕ) → i ≢ index
+            → (piece_in self.new i).bytes ≡ (piece_in self.old i).bytes }
+    {
+        let heap = self.heap;
+        if index < self.pieces.len() {
+            if from == 0 && self.pieces[index].len() <= to {
+                self.pieces[index] = Run::new(heap);
+            } else {
+                self.pieces[index].wipe(from, to);
+            }
         }
     }
 

@@ -24,7 +24,7 @@ use ids::{Bytes, DESCRIPTORS, Fd, Kind, Name, NameList, Num, PIPE_CAPACITY, Pid,
 use look::Look;
 use notes::{
     InodeChange, bytes_over, front_of, front_over, given_over, is_empty_over, kind_over, len_over,
-    names_over, new_ends, pipe_len_of, pipe_len_over, target_over,
+    names_over, new_ends, passed_over, pipe_len_of, pipe_len_over, target_over,
 };
 use objects::{Description, FileData};
 use std::alloc::AllocError;
@@ -383,6 +383,24 @@ impl<'a> Look for View<'a> {
     ) -> Result<Bytes, AllocError> {
         small(self.len(file) as u128)?;
         self.bytes(heap, file, offset as usize, count as usize)
+    }
+
+    fn pass(
+        &self,
+        heap: Heap,
+        file: Num,
+        holes: bool,
+        first: u32,
+        count: u32,
+    ) -> Result<u32, AllocError> {
+        let none = FileData::new(heap);
+        let stored = self.stable.file(file, &none);
+        let blocks = (first as usize, count as usize);
+        let passed = match change(self.shadow, file) {
+            Some(change) => passed_over(heap, &change.contents, stored, holes, blocks)?,
+            None => stored.pass(holes, blocks.0, blocks.1),
+        };
+        Ok(passed as u32)
     }
 
     fn links(&self, file: Num) -> Result<u32, AllocError> {
