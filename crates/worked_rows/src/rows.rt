@@ -10,6 +10,7 @@ use crate::errors_at_offsets::ERRORS_AT_OFFSETS;
 use crate::errors_of_links::ERRORS_OF_LINKS;
 use crate::errors_of_rights::ERRORS_OF_RIGHTS;
 use crate::errors_of_truncates::ERRORS_OF_TRUNCATES;
+use crate::exchanges::EXCHANGES;
 use crate::fifos::FIFOS;
 use crate::files::FILES;
 use crate::freed::FREED;
@@ -18,6 +19,7 @@ use crate::links::LINKS;
 use crate::names_of_truncates::NAMES_OF_TRUNCATES;
 use crate::pipes::{HALVES, PIPES};
 use crate::processes::{ENDED, PROCESSES};
+use crate::ranges::RANGES;
 use crate::renames::RENAMES;
 use crate::rights::RIGHTS;
 use crate::row::Row;
@@ -27,7 +29,7 @@ use crate::transactions::TRANSACTIONS;
 use crate::trees::TREES;
 
 // How many kinds of rows there are.
-pub(crate) const KINDS: usize = 27;
+pub(crate) const KINDS: usize = 29;
 
 // The rows of a kind, whose number is below `KINDS`. The functions that go over all of them do so in
 // a loop, since the proof of a call for each kind is long.
@@ -59,6 +61,8 @@ pub(crate) fn rows_of(kind: usize) -> &'static [Row] {
         23 => &RIGHTS,
         24 => &KEPT_RIGHTS,
         25 => &ERRORS_OF_RIGHTS,
-        _ => &BESIDE_RIGHTS,
+        26 => &BESIDE_RIGHTS,
+        27 => &EXCHANGES,
+        _ => &RANGES,
     }
 }
