@@ -44,7 +44,7 @@ pub returns-in-RmDir-clause-answers : goal.returns-in-RmDir-clause-answers
 returns-in-RmDir-clause-answers g c = answers (seen c.args.self.now) (seen c.remove_directory.new.self) c.args.hand.now.pid c.args.caller _ _ _ c.in-RmDir.is c.remove_directory.ensures.answers
 
 pub returns-in-Rename-clause-answers : goal.returns-in-Rename-clause-answers
-returns-in-Rename-clause-answers g c = answers (seen c.args.self.now) (seen c.move_name.new.self) c.args.hand.now.pid c.args.caller _ _ _ c.in-Rename.is c.move_name.ensures.answers
+returns-in-Rename-clause-answers g c = answers (seen c.args.self.now) (seen c.rename.new.self) c.args.hand.now.pid c.args.caller _ _ _ c.in-Rename.is c.rename.ensures.answers
 
 pub returns-in-Open-clause-answers : goal.returns-in-Open-clause-answers
 returns-in-Open-clause-answers g c = answers (seen c.args.self.now) (seen c.open.new.self) c.args.hand.now.pid c.args.caller _ _ _ c.in-Open.is c.open.ensures.answers
@@ -57,3 +57,9 @@ returns-in-Write-clause-answers g c = answers (seen c.args.self.now) (seen c.wri
 
 pub returns-in-Lseek-clause-answers : goal.returns-in-Lseek-clause-answers
 returns-in-Lseek-clause-answers g c = answers (seen c.args.self.now) (seen c.seek.new.self) c.args.hand.now.pid c.args.caller _ _ _ c.in-Lseek.is c.seek.ensures.answers
+
+pub returns-in-Fallocate-clause-answers : goal.returns-in-Fallocate-clause-answers
+returns-in-Fallocate-clause-answers g c = answers (seen c.args.self.now) (seen c.fallocate.new.self) c.args.hand.now.pid c.args.caller _ _ _ c.in-Fallocate.is c.fallocate.ensures.answers
+
+pub returns-in-CopyFileRange-clause-answers : goal.returns-in-CopyFileRange-clause-answers
+returns-in-CopyFileRange-clause-answers g c = answers (seen c.args.self.now) (seen c.copy.new.self) c.args.hand.now.pid c.args.caller _ _ _ c.in-CopyFileRange.is c.copy.ensures.answers
