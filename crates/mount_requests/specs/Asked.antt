@@ -126,6 +126,11 @@ whence_in whence.End = Ok ways.End
 whence_in whence.NextData = Ok ways.Data
 whence_in whence.NextHole = Ok ways.Hole
 
+-- Linux hands a negative offset on as it stands, from which there is nothing to find (tmpfs: ENXIO).
+abbrev pub looked_from : ℕ → Result ℤ Failure
+looked_from offset =
+    if nat_lt offset (2 ^ 63) then Ok (pos offset) else Err (error errno.ENXIO)
+
 -- What becomes of a range by the mode of fallocate: the file reaches to its end, its length stays (1),
 -- or the range is zeros (2, with 1 alone). There is no other mode (tmpfs: EOPNOTSUPP).
 abbrev pub space_by : ℕ → Result Space Failure

@@ -30,7 +30,7 @@ use Rattle.mount_tables.specs.Numbers.{is_reserved}
 use Rattle.mount_tables.specs.declared.open_files.OpenFile.{OpenFile}
 use Rattle.mount_requests.specs.Answers.{Answers, AnswersIfRoom, Says}
 use Rattle.mount_requests.specs.Asked.{absent_in, creation, cut_by, drops, flagless, given, is_exchange}
-use Rattle.mount_requests.specs.Asked.{length_in, offset_by, offset_in, overlap, owner_by, permissions_by}
+use Rattle.mount_requests.specs.Asked.{length_in, looked_from, offset_by, offset_in, overlap, owner_by, permissions_by}
 use Rattle.mount_requests.specs.Asked.{space_by, special_in, update_of, whence_in}
 use Rattle.mount_requests.specs.Failures.{and_then, error, found_or}
 use Rattle.mount_requests.specs.Found.{file_at, file_by, folder_at, handle_at, handle_of, inode_of, located_child}
@@ -382,7 +382,7 @@ AnswersWrite s later pid node handle offset how flags bytes old new result =
 
 abbrev pub seeks : Seen → ℕ → ℕ → ℕ → Whence → Result Seeking Failure
 seeks s pid handle offset whence = and_then (file_by s pid handle) (λ file.
-    and_then (offset_in offset) (λ from. and_then (whence_in whence) (λ by.
+    and_then (looked_from offset) (λ from. and_then (whence_in whence) (λ by.
     Ok (record { fd = file.fd; offset = from; whence = by }))))
 
 abbrev pub AnswersSeek : Seen → Seen → ℕ → ℕ → ℕ → Whence → Shown → Shown → Result Reply Failure

@@ -2,7 +2,8 @@
 ghost use Rattle.std.specs.Prelude.{◌≡◌};
 ghost use Rattle.course.specs.Hands.{bound};
 ghost use Rattle.mount_requests.specs.Answers.{IsPlanned};
-ghost use Rattle.mount_requests.specs.Asked.{flagless, overlap, space_by, whence_in};
+ghost use Rattle.mount_requests.specs.Asked.{flagless, looked_from, overlap, space_by};
+ghost use Rattle.mount_requests.specs.Asked.{whence_in};
 ghost use Rattle.mount_requests.specs.Requests.{AnswersCopy, AnswersFallocate, AnswersSeek};
 ghost use Rattle.mount_requests.specs.Requests.{allocates, apart_in, copies, if_same_process, seeks};
 ghost use Rattle.mount_requests.specs.Requests.{target_by};
@@ -56,6 +57,16 @@ fn whence_in(whence: Whence) -> Result<ids::Whence, Failure>
         Whence::End => Ok(ids::Whence::End),
         Whence::NextData => Ok(ids::Whence::Data),
         Whence::NextHole => Ok(ids::Whence::Hole),
+    }
+}
+
+// From where an offset is looked for. Linux hands a negative one on as it stands.
+fn looked_from(offset: u64) -> Result<i64, Failure>
+    ensures { result ≡ looked_from offset }
+{
+    match i64::try_from(offset) {
+        Ok(offset) => Ok(offset),
+        Err(_) => Err(Failure::Error(Errno::ENXIO)),
     }
 }
 
@@ -127,7 +138,7 @@ impl Tables {
         ensures { IsPlanned (seeks (seen self.now) pid handle offset whence) result }
     {
         let file = self.open_file(handle, pid)?;
-        let offset = offset_in(offset)?;
+        let offset = looked_from(offset)?;
         let whence = whence_in(whence)?;
         Ok(Seeking {
             fd: file.fd,
