@@ -218,8 +218,8 @@ impl Tables {
         ensures files { self.new.files ≡ self.old.files }
     {
         match one {
-            Some(inode) => {
-                self.note(view, inode, Event::StatusChanged);
+            Some(first) => {
+                self.note(view, first, Event::StatusChanged);
                 self.note_name(view, other);
             }
             None => self.note_name(view, other),
@@ -243,10 +243,10 @@ impl Tables {
         if are_one(one, other) {
             return;
         }
-        let from = self.inode_of(first.parent);
-        let to = self.inode_of(second.parent);
-        self.note(view, from, Event::Modified);
-        self.note(view, to, Event::Modified);
+        let at = self.inode_of(first.parent);
+        let onto = self.inode_of(second.parent);
+        self.note(view, at, Event::Modified);
+        self.note(view, onto, Event::Modified);
         self.note_both(view, one, other);
     }
 

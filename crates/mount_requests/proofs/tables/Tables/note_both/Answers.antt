@@ -16,7 +16,7 @@ note_name-requires-in-None c = omega (arith, c.requires)
 
 pub returns-in-Some-clause-seen : goal.returns-in-Some-clause-seen
 returns-in-Some-clause-seen c =
-    noted_then (seen c.args.self.now) (seen c.note.new.self) (seen c.note_name.new.self) c.args.view c.in-Some.inode StatusChanged (of_names c.args.other) c.note.ensures.seen c.note_name.ensures.seen
+    noted_then (seen c.args.self.now) (seen c.note.new.self) (seen c.note_name.new.self) c.args.view c.in-Some.first StatusChanged (of_names c.args.other) c.note.ensures.seen c.note_name.ensures.seen
     ∙ ap (λ (o : Option ℕ). noted_in c.args.view (of_both o c.args.other) (seen c.args.self.now)) (sym c.in-Some.is)
 
 pub returns-in-None-clause-seen : goal.returns-in-None-clause-seen

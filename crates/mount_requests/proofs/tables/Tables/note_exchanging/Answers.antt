@@ -30,8 +30,8 @@ returns-clause-seen c =
     let s = seen c.args.self.now in
     let node = c.args.first.now.parent in
     let view = c.view_at-view.result in
-    let from = c.inode_of-from.result in
-    let to = c.inode_of-to.result in
+    let from = c.inode_of-at.result in
+    let to = c.inode_of-onto.result in
     let one = c.inode_named-one.result in
     let other = c.inode_named-other.result in
     let events : Events = (from, Modified) ∷ (to, Modified) ∷ of_both one other in
@@ -41,5 +41,5 @@ returns-clause-seen c =
     ∙ ap (λ (b : Bool). with_events node (if b then [] else events) s) (sym (sym c.are_one.ensures ∙ c.if-are_one.false))
     ∙ ap (λ o. with_events node (of_exchanging o other from to) s) c.inode_named-one.ensures
     ∙ ap (λ o. with_events node (of_exchanging _ o from to) s) c.inode_named-other.ensures
-    ∙ ap (λ (d : ℕ). with_events node (of_exchanging _ _ d to) s) c.inode_of-from.ensures
-    ∙ ap (λ (d : ℕ). with_events node (of_exchanging _ _ _ d) s) c.inode_of-to.ensures
+    ∙ ap (λ (d : ℕ). with_events node (of_exchanging _ _ d to) s) c.inode_of-at.ensures
+    ∙ ap (λ (d : ℕ). with_events node (of_exchanging _ _ _ d) s) c.inode_of-onto.ensures
