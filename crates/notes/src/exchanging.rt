@@ -130,13 +130,15 @@ impl Inodes {
 
 impl Patches {
     /// Notes an exchange of two names. Refused memory changes nothing that shows.
-    pub(crate) fn exchange(&mut self, edit: Edit) -> Result<(), AllocError>
+    pub(crate) fn exchange(&mut self, chosen: &[Num], edit: Edit) -> Result<(), AllocError>
         requires { IsSwap edit }
-        ensures ok { OnOk result ((chosen : List ℕ) → TakesIn chosen edit self.old self.new) }
+        ensures ok { OnOk result (TakesIn chosen.now edit self.old self.new) }
         ensures err { OnErr result (SamePatches self.old self.new) }
         ensures openings { self.new.openings ≡ self.old.openings }
         ensures slots { self.new.slots ≡ self.old.slots }
     {
+        // For the proof: the edit needs no new number.
+        let _chosen = chosen;
         match edit {
             Edit::Swap {
                 first,

@@ -216,7 +216,7 @@ impl Patches {
                 drop(old_name);
                 noted
             }
-            other => self.exchange(other),
+            other => self.exchange(chosen, other),
         }
     }
 

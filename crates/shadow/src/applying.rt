@@ -234,7 +234,7 @@ impl Stable {
                 self.rename(from, &old_name, to, new_name, inode, replaced);
                 drop(old_name);
             }
-            other => self.exchange(other),
+            other => self.exchange(chosen, other),
         }
     }
 

@@ -14,13 +14,15 @@ use objects::FileData;
 
 impl Stable {
     // An exchange of two names. It takes no memory.
-    pub(crate) fn exchange(&mut self, edit: Edit)
+    pub(crate) fn exchange(&mut self, chosen: &[Num], edit: Edit)
         requires swap { IsSwap edit }
-        requires fits { Fits [] self.old.state edit }
-        requires covers { (c : Claim) → claimed_by_one c [] edit ≤ reserved self.old c }
-        ensures state { self.new.state ≡ tidy (applied [] edit self.old.state) }
-        ensures kept { KeepsMore self.new self.old (λ c. claimed_by_one c [] edit) }
+        requires fits { Fits chosen.now self.old.state edit }
+        requires covers { (c : Claim) → claimed_by_one c chosen.now edit ≤ reserved self.old c }
+        ensures state { self.new.state ≡ tidy (applied chosen.now edit self.old.state) }
+        ensures kept { KeepsMore self.new self.old (λ c. claimed_by_one c chosen.now edit) }
     {
+        // For the proof: the edit needs no new number.
+        let _chosen = chosen;
         match edit {
             Edit::Swap {
                 first,

@@ -1,4 +1,4 @@
-use Rattle.std.proofs.Common.{List, ℕ, sym, subst}
+use Rattle.std.proofs.Common.{sym, subst}
 use Rattle.model.specs.Changes.{Edit}
 use Rattle.notes.specs.Steps.{TakesIn}
 use Rattle.notes.proofs.Outcomes.{ok_so}
@@ -7,5 +7,5 @@ use Rattle.notes.proofs.exchanging.Patches.exchange.Goals as goal
 pub returns-in-Swap-clause-ok : goal.returns-in-Swap-clause-ok
 returns-in-Swap-clause-ok c =
     ok_so c.swap-noted.result
-    (λ t chosen. subst (λ (e : Edit). TakesIn chosen e c.args.self.now c.swap-noted.new.self) (sym c.in-Swap.is) (t chosen))
+    (λ t. subst (λ (e : Edit). TakesIn c.args.chosen.now e c.args.self.now c.swap-noted.new.self) (sym c.in-Swap.is) (t c.args.chosen.now))
     c.swap-noted.ensures.ok
