@@ -15,8 +15,8 @@ use heap::Heap;
 use ids::{Answer, Call, Edit, Errno, Pid, Refusal, Touch};
 use look::Look;
 use path_calls::{
-    Change, chmod, chown, exchange, link, list, lstat, mkdir, mknod, readlink, rename, rmdir, stat, symlink,
-    truncate, unlink,
+    Change, chmod, chown, exchange, link, list, lstat, mkdir, mknod, readlink, rename, rmdir, stat,
+    symlink, truncate, unlink,
 };
 use std::alloc::AllocError;
 use walk::Reads;
@@ -115,7 +115,7 @@ fn change_of<L: Look>(
         Call::Ftruncate(fd, length) => ftruncate(look, pid, *fd, *length, reads),
         Call::Truncate(path, length) => truncate(look, path, *length, reads),
         Call::Fallocate(fd, offset, length, space) => {
-            fallocate(look, pid, *fd, (*offset, *length), *space, reads)
+            fallocate(look, pid, *fd, *offset, *length, *space, reads)
         }
         Call::Stat(path) => stat(look, path, reads),
         Call::Fstat(fd) => fstat(look, pid, *fd, reads),

@@ -1,5 +1,5 @@
 // The plan of fallocate.
-ghost use Rattle.std.specs.Prelude.{◌≡◌, ◌+◌, ◌≤◌, ◌<◌, ◌^◌, IfOk, nat_lt};
+ghost use Rattle.std.specs.Prelude.{◌≡◌, ◌+◌, ◌-◌, ◌≤◌, ◌<◌, ◌^◌, IfOk, min, nat_lt};
 ghost use Rattle.model.specs.Plan.{EFBIG, refuse_if};
 ghost use Rattle.model.specs.Plans.{plan, length_named, spaced};
 ghost use Rattle.model.specs.Calls.{Fallocate, Grow, Punch};
@@ -18,17 +18,18 @@ pub(crate) fn fallocate<L: Look>(
     look: &L,
     pid: Pid,
     fd: Fd,
-    range: (i64, i64),
+    offset: i64,
+    length: i64,
     space: Space,
     reads: &mut Reads,
 ) -> Result<Change, Refusal>
     ensures { Comes (L.state look.now)
-        (plan (own_in (L.state look.now) pid) (Fallocate fd range.0 range.1 space))
+        (plan (own_in (L.state look.now) pid) (Fallocate fd offset length space))
         reads.old result reads.new }
 {
     let it = slot(look, pid, fd)?;
-    let offset = or_refuse(Errno::EINVAL, offset_named(range.0))?;
-    let count = or_refuse(Errno::EINVAL, length_named(range.1))?;
+    let offset = or_refuse(Errno::EINVAL, offset_named(offset))?;
+    let count = or_refuse(Errno::EINVAL, length_named(length))?;
     refuse_if(!it.writing, Errno::EBADF)?;
     must_not_be_pipe(it.kind, Errno::ESPIPE)?;
     must_end_within(offset, count, look.largest())?;
@@ -89,7 +90,7 @@ fn grown<L: Look>(
     ensures { Comes (L.state look.now) (spaced file offset count Grow) reads.old result reads.new }
 {
     let size = size(look, file, reads)?;
-    if size < offset + count {
+    if ends_before(size, offset, count) {
         changed_by(
             reads.heap(),
             Answer::Done,
@@ -104,6 +105,14 @@ fn grown<L: Look>(
     }
 }
 
+// Whether a file ends before a range does.
+fn ends_before(size: u32, offset: u32, count: u32) -> bool
+    requires { offset + count < 2 ^ 32 }
+    ensures { result ≡ nat_lt size (offset + count) }
+{
+    size < offset + count
+}
+
 // A file whose bytes of a range are zero.
 fn punched<L: Look>(
     look: &L,
@@ -115,17 +124,31 @@ fn punched<L: Look>(
     ensures { Comes (L.state look.now) (spaced file offset count Punch) reads.old result reads.new }
 {
     let size = size(look, file, reads)?;
-    if offset < size {
+    if begins_within(offset, size) {
         changed_by(
             reads.heap(),
             Answer::Done,
             Edit::Wipe {
                 file,
                 offset,
-                count: count.min(size - offset),
+                count: part_within(size, offset, count),
             },
         )
     } else {
         unchanged(reads.heap(), Answer::Done)
     }
+}
+
+// Whether a range begins before a file ends.
+fn begins_within(offset: u32, size: u32) -> bool
+    ensures { result ≡ nat_lt offset size }
+{
+    offset < size
+}
+
+// How many bytes of a range a file has.
+fn part_within(size: u32, offset: u32, count: u32) -> u32
+    ensures { result ≡ min count (size - offset) }
+{
+    count.min(size.saturating_sub(offset))
 }

@@ -1,6 +1,8 @@
 // The plan of lseek.
-ghost use Rattle.std.specs.Prelude.{◌≡◌, ◌+◌, ◌≤◌, ◌^◌, ◌<◌, ℕ, ℤ};
+ghost use Rattle.std.specs.Prelude.{◌≡◌, ◌+◌, ◌-◌, ◌/◌, ◌≤◌, ◌<◌, ℕ, ℤ, min, suc};
+ghost use Rattle.ids.specs.declared.limits.TheConstants.{LARGEST_FILE};
 ghost use Rattle.model.specs.Holes.{behind_blocks};
+ghost use Rattle.model.specs.Limits.{block_length};
 ghost use Rattle.model.specs.Plans.{plan, aimed, found_from, sought};
 ghost use Rattle.model.specs.Calls.{Lseek};
 ghost use Rattle.look.specs.Asked.{Comes, Tells};
@@ -51,8 +53,8 @@ fn aimed<L: Look>(
             Ok(i128::from(start) + i128::from(distance))
         }
         Whence::End => {
-            let start = size(look, it.inode, reads)?;
-            Ok(i128::from(start) + i128::from(distance))
+            let end = size(look, it.inode, reads)?;
+            Ok(i128::from(end) + i128::from(distance))
         }
         Whence::Data => found_at(look, it.inode, false, distance, reads),
         Whence::Hole => found_at(look, it.inode, true, distance, reads),
@@ -87,12 +89,28 @@ fn found_from<L: Look>(
     let size = size(look, file, reads)?;
     must_be_below(from, size, Errno::ENXIO)?;
     let from = from as u32;
-    let first = from / BLOCK_LEN as u32;
-    let count = (size - 1) / BLOCK_LEN as u32 - first + 1;
-    let passed = pass(look, file, !holes, (first, count), reads)?;
+    let passed = pass(look, file, !holes, row(from, size), reads)?;
     let place = behind_blocks(from, passed);
     refuse_if(!holes && u64::from(size) <= place, Errno::ENXIO)?;
-    Ok(place.min(u64::from(size)) as u32)
+    Ok(within(size, place))
+}
+
+// The blocks of a file from a place on: the first of them, and how many there are.
+fn row(from: u32, size: u32) -> (u32, u32)
+    requires { from < size }
+    ensures first { result.0 ≡ from / block_length }
+    ensures count { result.1 ≡ suc ((size - 1) / block_length - from / block_length) }
+    ensures small { result.0 + result.1 ≤ LARGEST_FILE }
+{
+    let first = from / BLOCK_LEN as u32;
+    (first, (size - 1) / BLOCK_LEN as u32 - first + 1)
+}
+
+// A place of a file, or its end.
+fn within(size: u32, place: u64) -> u32
+    ensures { result ≡ min size place }
+{
+    u64::from(size).min(place) as u32
 }
 
 // From a place on, behind so many blocks.

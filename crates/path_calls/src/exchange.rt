@@ -1,5 +1,5 @@
 // The plan of exchange.
-ghost use Rattle.std.specs.Prelude.{ℕ};
+ghost use Rattle.std.specs.Prelude.{◌≡◌, ◌==◌, ℕ};
 ghost use Rattle.path_calls.specs.Parts.{exchange_paths};
 ghost use Rattle.model.specs.Plans.{plan, swapped};
 ghost use Rattle.model.specs.Calls.{own, Exchange};
@@ -63,7 +63,7 @@ fn swapped(
 ) -> Result<Change, Refusal>
     ensures { Tells (swapped at what onto other) result }
 {
-    if what.0 == other.0 {
+    if are_one(&what, &other) {
         drop(onto);
         drop(at);
         return unchanged(heap, Answer::Done);
@@ -79,4 +79,11 @@ fn swapped(
             second_inode: other.0,
         },
     )
+}
+
+// Whether two names are of one object.
+fn are_one(what: &(Num, Option<Kind>), other: &(Num, Option<Kind>)) -> bool
+    ensures { result ≡ (what.now.0 == other.now.0) }
+{
+    what.0 == other.0
 }
