@@ -34,7 +34,7 @@ zero_hole bytes block zeros = list_all-from_AllPass (λ b. b == 0) (block_in byt
     get_or_any xs k d e low = grind (arith, low)
 
 -- a fact that follows both ways
-alike : (a b : Bool) → (a ≡ true → b ≡ true) → (b ≡ true → a ≡ true) → a ≡ b
+pub alike : (a b : Bool) → (a ≡ true → b ≡ true) → (b ≡ true → a ≡ true) → a ≡ b
 alike true b f g = sym (f refl)
 alike false true f g = g refl
 alike false false f g = refl
@@ -57,3 +57,41 @@ same_passed holes now later first (suc more) h = by (is_alike holes now first) r
         → alike_from holes later first (suc more) ≡ (if b then suc (alike_from holes now (suc first) more) else 0)
     by true e h = ap (λ b. if b then suc (alike_from holes later (suc first) more) else 0) (same_alike holes now later first h.0 ∙ e) ∙ ap suc (same_passed holes now later (suc first) more h.1)
     by false e h = ap (λ b. if b then suc (alike_from holes later (suc first) more) else 0) (same_alike holes now later first h.0 ∙ e)
+
+-- A row of blocks, one after the other: `passed` of them are alike, and what comes behind these is told from there on.
+module _ (holes : Bool) (bytes : List ℕ) (first count : ℕ) where
+  abbrev whole : ℕ
+  whole = alike_from holes bytes first count
+
+  pub row_begins : whole ≡ 0 + alike_from holes bytes (first + 0) (count - 0)
+  row_begins =
+      let at : first + 0 ≡ first = omega arith in
+      let all : count - 0 ≡ count = omega arith in
+      λ i. alike_from holes bytes (sym at i) (sym all i)
+
+  module _ (passed : ℕ) (was : whole ≡ passed + alike_from holes bytes (first + passed) (count - passed)) where
+    abbrev rest : ℕ
+    rest = alike_from holes bytes (suc (first + passed)) (count - (passed + 1))
+
+    next : passed < count → (b : Bool) → is_alike holes bytes (first + passed) ≡ b → whole ≡ passed + (if b then suc rest else 0)
+    next low b is =
+        let left : count - passed ≡ suc (count - (passed + 1)) = omega (arith, low) in
+        was ∙ ap (λ n. passed + alike_from holes bytes (first + passed) n) left ∙ ap (λ t. passed + (if t then suc rest else 0)) is
+
+    -- one more is alike
+    pub row_more : passed < count → is_alike holes bytes (first + passed) ≡ true → whole ≡ passed + 1 + alike_from holes bytes (first + (passed + 1)) (count - (passed + 1))
+    row_more low is =
+        let at : suc (first + passed) ≡ first + (passed + 1) = omega arith in
+        let sum : passed + suc rest ≡ passed + 1 + rest = omega arith in
+        next low true is ∙ sum ∙ ap (λ f. passed + 1 + alike_from holes bytes f (count - (passed + 1))) at
+
+    -- the next is not
+    pub row_stops : passed < count → is_alike holes bytes (first + passed) ≡ false → whole ≡ passed
+    row_stops low is = let none : passed + 0 ≡ passed = omega arith in next low false is ∙ none
+
+    -- none is left
+    pub row_done : count ≤ passed → whole ≡ passed
+    row_done past =
+        let none : count - passed ≡ 0 = omega (arith, past) in
+        let same : passed + 0 ≡ passed = omega arith in
+        was ∙ ap (λ n. passed + alike_from holes bytes (first + passed) n) none ∙ same
