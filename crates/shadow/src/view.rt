@@ -1,9 +1,11 @@
 // What a process sees.
-ghost use Rattle.std.specs.Prelude.{◌≡◌, ◌≤◌, IfOk, IfSome, drop};
+ghost use Rattle.std.specs.Prelude.{◌≡◌, ◌+◌, ◌≤◌, IfOk, IfSome, drop};
+ghost use Rattle.ids.specs.declared.limits.TheConstants.{LARGEST_FILE};
 ghost use Rattle.std.specs.Prelude.{if◌then◌else◌, length, option_copied, option_map, take};
 ghost use Rattle.model.specs.FiniteMap.{get};
 ghost use Rattle.model.specs.State.{file_of, kind_of, names_of, pipe_of, target_of};
 ghost use Rattle.model.specs.Changes.{holders, process_of};
+ghost use Rattle.model.specs.Holes.{alike_from};
 ghost use Rattle.model.specs.Calls.{slot_of};
 ghost use Rattle.model.specs.Effects.{all_done};
 ghost use Rattle.freeing_laws.specs.Pipes.{ArePair, holders_if, reads, writes};
@@ -175,6 +177,27 @@ impl<'a> View<'a> {
         match change(self.shadow, file) {
             Some(change) => bytes_over(heap, &change.contents, stored, offset, count),
             None => stored.read_at(heap, offset, count),
+        }
+    }
+
+    // How many blocks of a file from one on, so many at most, are holes, or are none.
+    fn passed(
+        &self,
+        heap: Heap,
+        file: Num,
+        holes: bool,
+        blocks: (usize, usize),
+    ) -> Result<usize, AllocError>
+        requires { blocks.0 + blocks.1 ≤ LARGEST_FILE }
+        ensures value { IfOk result (λ passed. passed
+            ≡ alike_from holes (file_of self.now.state file) blocks.0 blocks.1) }
+        ensures small { IfOk result (λ passed. passed ≤ blocks.1) }
+    {
+        let none = FileData::new(heap);
+        let stored = self.stable.file(file, &none);
+        match change(self.shadow, file) {
+            Some(change) => passed_over(heap, &change.contents, stored, holes, blocks),
+            None => Ok(stored.pass(holes, blocks.0, blocks.1)),
         }
     }
 
@@ -393,13 +416,7 @@ impl<'a> Look for View<'a> {
         first: u32,
         count: u32,
     ) -> Result<u32, AllocError> {
-        let none = FileData::new(heap);
-        let stored = self.stable.file(file, &none);
-        let blocks = (first as usize, count as usize);
-        let passed = match change(self.shadow, file) {
-            Some(change) => passed_over(heap, &change.contents, stored, holes, blocks)?,
-            None => stored.pass(holes, blocks.0, blocks.1),
-        };
+        let passed = self.passed(heap, file, holes, (first as usize, count as usize))?;
         Ok(passed as u32)
     }
 
