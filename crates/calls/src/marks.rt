@@ -109,10 +109,10 @@ fn mark_wiped(file: Num, offset: u32, count: u32, touches: &mut Touches) -> Resu
         (touches.new ≡ touches.old ++ writing (marks (Wipe file offset count))) }
 {
     // For the proof: what a plan wipes ends below 2^32, which an edit alone does not say.
-    if offset.checked_add(count).is_none() {
-        return Err(AllocError);
+    match offset.checked_add(count) {
+        Some(_) => mark_blocks(file, offset, count, touches),
+        None => Err(AllocError),
     }
-    mark_blocks(file, offset, count, touches)
 }
 
 // Two names.

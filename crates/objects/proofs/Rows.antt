@@ -1,7 +1,7 @@
 -- Holes of a file in its pieces, and what a row of zeros makes of a piece.
-use Rattle.std.proofs.Common.{◌≡◌, ◌≢◌, ℕ, ◌+◌, ◌-◌, ◌*◌, ◌/◌, ◌%◌, ◌<◌, ◌≤◌, ◌⊎◌, Bool, true, false, not, max, min, List, length, get_or, replicate, refl, sym, ap, ◌∙◌, arith, inl, inr}
+use Rattle.std.proofs.Common.{◌≡◌, ◌≢◌, ℕ, ◌+◌, ◌-◌, ◌*◌, ◌/◌, ◌%◌, ◌<◌, ◌≤◌, ◌⊎◌, Bool, true, false, not, max, min, List, [], length, get_or, take, replicate, refl, sym, ap, ◌∙◌, arith, inl, inr, length-take, get_or-take}
 use Rattle.std.proofs.lemmas.Bool.{cases_eq, cases_lt}
-use Rattle.std.proofs.lemmas.List.{get_or-replicate, length-replicate}
+use Rattle.std.proofs.lemmas.List.{get_or_past, get_or-replicate, length-replicate}
 use Rattle.model.specs.Holes.{is_hole, is_alike}
 use Rattle.model.proofs.Laws.{alike, hole_zero, zero_hole}
 use Rattle.objects.specs.Contents.{Content}
@@ -45,6 +45,29 @@ module _ (gs : List (List Content)) (len : ℕ) (ends : EndsBy len gs) (block : 
           let same : (block / 15 * PIECE_LEN + j) % PIECE_LEN ≡ j = omega (arith, is) in
           ap (λ n. get_or (piece_of gs (block / 15)).bytes n 0) (sym same) ∙ sym (at_piece (block / 15 * PIECE_LEN + j) there)
           ∙ hole_zero (bytes_of gs len) block e (block / 15 * PIECE_LEN + j) there))
+
+-- what is left of a piece where nothing stands behind the zeros, and where nothing is left
+pub wiped_cut : (from to : ℕ) (old : List ℕ) → from ≤ to → length old ≤ to → WipedIn from to old (take from old)
+wiped_cut from to old rising short =
+    let cut : length (take from old) ≡ min from (length old) = length-take from old in
+    record {
+      len = omega (arith, cut);
+      inside = λ p a b. get_or_past (take from old) p 0 (omega (arith, cut, a));
+      outside = λ p out. elim out [
+        | inl low ↦ get_or-take from old p 0 low
+        | inr past ↦ get_or_past (take from old) p 0 (omega (arith, cut, rising, past)) ∙ sym (get_or_past old p 0 (omega (arith, short, past)))
+      ];
+    }
+
+pub wiped_whole : (from to : ℕ) (old : List ℕ) → from ≡ 0 → length old ≤ to → WipedIn from to old []
+wiped_whole from to old none short = record {
+  len = omega arith;
+  inside = λ p a b. refl;
+  outside = λ p out. elim out [
+    | inl low ↦ absurd (omega (arith, none, low))
+    | inr past ↦ sym (get_or_past old p 0 (omega (arith, short, past)))
+  ];
+}
 
 -- zeros in one piece more
 module _ (old mid new : List (List Content)) (number offset low high count : ℕ)

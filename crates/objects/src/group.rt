@@ -10,6 +10,7 @@ use crate::run::Run;
 use heap::Heap;
 use std::alloc::AllocError;
 use std::marker::Model;
+use std::mem;
 
 /// How many bytes a piece has at most: fifteen blocks. What is written comes in buffers whose lengths
 /// are mostly powers of two, and pieces are made where such buffers lay before. With what an allocator
@@ -145,11 +146,7 @@ impl Group {
     {
         let heap = self.heap;
         if index < self.pieces.len() {
-            if from == 0 && self.pieces[index].len() <= to {
-                self.pieces[index] = Run::new(heap);
-            } else {
-                self.pieces[index].wipe(from, to);
-            }
+            wipe_in(heap, &mut self.pieces[index], from, to);
         }
     }
 
@@ -193,4 +190,24 @@ impl Group {
         }
         long
     }
+}
+
+// Makes bytes of a piece zero, from one offset on, below another, and gives its memory back where
+// nothing is left of it.
+fn wipe_in(heap: Heap, piece: &mut Run, from: usize, to: usize)
+    requires { from ≤ to }
+    ensures { WipedIn from to piece.old.bytes piece.new.bytes }
+{
+    if goes_whole(piece, from, to) {
+        drop(mem::replace(piece, Run::new(heap)));
+    } else {
+        piece.wipe(from, to);
+    }
+}
+
+// Whether no byte of a piece stands outside these.
+fn goes_whole(piece: &Run, from: usize, to: usize) -> bool
+    ensures { result ≡ true → (from ≡ 0) × (length piece.now.bytes ≤ to) }
+{
+    from == 0 && piece.len() <= to
 }

@@ -229,7 +229,7 @@ impl Run {
         ensures room { self.old.room ≤ self.new.room }
     {
         if self.bytes.len() <= to {
-            self.bytes.truncate(from);
+            self.shorten(from);
         } else {
             wipe(self.bytes.as_mut_slice(), from, to);
         }
