@@ -1,4 +1,5 @@
-use Rattle.std.proofs.Common.{ap, rules, sym, ◌∙◌, FitsSigned, w128}
+use mir.Syntax.{w128}
+use Rattle.std.proofs.Common.{ap, rules, sym, ◌∙◌, FitsSigned}
 use Rattle.std.proofs.lemmas.Int.{to_z-of_z}
 use Rattle.model.specs.Plans.{aimed}
 use Rattle.calls.specs.Parts.{offset_in}
