@@ -9,7 +9,7 @@ use Rattle.std.proofs.lemmas.List.{length-replicate}
 use Rattle.model.specs.Plan.{Errno, Plan, Give, given, ◌>>=◌, answer, capacity, Measure, Fit, Count_ends, List_names, or_refuse, ENOENT, ENOTDIR, ENOTEMPTY, EEXIST, EBUSY, EPERM, EINVAL, EISDIR, EBADF, EAGAIN, EPIPE, EFBIG, ESPIPE, ELOOP, ENXIO, ENAMETOOLONG}
 use Rattle.model.specs.Paths.{is_empty, is_below}
 use Rattle.model.specs.Walks.{Place, parsed, walk, is_directory, is_link, Last, last_of}
-use Rattle.model.specs.Changes.{Mode, There, Made, Edit, Make_directory, Make_file, Make_fixed, Name_file, Unname_file, Unname_directory, Swap, Wipe, Move, Put_bytes, Cut, Take, Append, Set_offset, Set_rights, Open_inode, Make_pipe, Share_slot, Clear_slot, New_process, End_process, number, applied, all_applied, set_inode, clear_name, set_description, set_offset, at_offset, at_start, open_at, to_read, to_write, written, sized, is_held, tidy}
+use Rattle.model.specs.Changes.{Mode, There, Made, Edit, Make_directory, Make_file, Make_fixed, Name_file, Unname_file, Unname_directory, Swap, Wipe, Move, Put_bytes, Cut, Take, Append, Set_offset, Set_rights, Open_inode, Make_pipe, Share_slot, Clear_slot, New_process, End_process, number, applied, all_applied, set_inode, set_name, clear_name, set_description, set_offset, at_offset, at_start, open_at, to_read, to_write, written, sized, is_held, tidy}
 use Rattle.ids.specs.Fixed.{fixed_target, special_object}
 use Rattle.ids.specs.Flags.{is_reading, is_writing, is_creating, is_exclusive, is_truncating}
 use Rattle.model.specs.Calls.{OpenFlags, Call, Open, Close, Read, Pread, Write, Pwrite, Lseek, Ftruncate, Truncate, Stat, Fstat, Link, Unlink, Rename, Exchange, Fallocate, Space, Grow, Keep, Punch, Mkdir, Rmdir, List_directory, Symlink, Readlink, Lstat, Mknod, Chmod, Chown, Fchmod, Fchown, Dup, Dup2, Open_pipe, Fork, Exit, Answer, Done, Descriptor, Count, New_place, Bytes, Slot, Special, Special_fifo, Special_socket, Own, own}

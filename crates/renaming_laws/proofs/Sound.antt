@@ -167,7 +167,7 @@ module _ (k : Kernel) where
       (then_whatever (last_of k.root EBUSY to) _ (λ onto. moved_sound at what onto onto.found)))))))
   call_sound slots pid (Exchange old path) = then_whatever (parsed old) _ (λ from. then_whatever (parsed path) _ (λ to. unless (is_empty from || is_empty to) EBUSY _
       (then_whatever (last_of k.root EBUSY from) _ (λ at. then_whatever (last_of k.root EBUSY to) _ (λ onto. then_whatever (or_refuse ENOENT at.found) _ (λ what. then_whatever (or_refuse ENOENT onto.found) _ (λ other.
-      unless (is_directory what && is_below from to) EINVAL _ (unless (is_directory other && is_below to from) EINVAL _ (either (what.0 == other.0) _ _ (unchanged_sound Done) (record { numbers = (tt, tt); shares = (tt, tt) })))))))))
+      unless (is_directory what && is_below from to) EINVAL _ (unless (is_directory other && is_below to from) EINVAL _ (either (what.0 == other.0) _ _ (unchanged_sound Done) (record { numbers = (tt, tt); shares = (tt, tt) }))))))))))
   call_sound slots pid (Mkdir path) = then_whatever (parsed path) _ (λ names. then_whatever (last_of k.root EEXIST names) _ (λ at. then_whatever (absent at.found) _ (λ _. record { numbers = (omega arith, tt); shares = (tt, tt) })))
   call_sound slots pid (Rmdir path) = then_whatever (parsed path) _ (λ names. then_whatever (last_of k.root EBUSY names) _ (λ at. then_whatever (or_refuse ENOENT at.found) _ (λ what.
       unless (not (is_directory what)) ENOTDIR _ (unless (not (is_empty (answer k (List_names what.0)))) ENOTEMPTY _ (record { numbers = (tt, tt); shares = (tt, tt) })))))

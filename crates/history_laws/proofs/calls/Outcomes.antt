@@ -1,6 +1,6 @@
 -- What the plans of calls come to: none refuses as unsupported, and but for fork and exit each edit
 -- of processes is of the caller's own table.
-use Rattle.std.proofs.Common.{◌≡◌, ℕ, List, [], ◌∷◌, Bool, true, false, not, ◌||◌, ◌&&◌, Option, Some, None, Result, Ok, Err, IfOk, refl, ap, ◌==◌, nat_lt, nat_le, if◌then◌else◌, length}
+use Rattle.std.proofs.Common.{◌+◌, ◌≡◌, ℕ, List, [], ◌∷◌, Bool, true, false, not, ◌||◌, ◌&&◌, Option, Some, None, Result, Ok, Err, IfOk, refl, ap, ◌==◌, nat_lt, nat_le, if◌then◌else◌, length}
 use Rattle.std.specs.Prelude.{⊤, ℤ, pos, negsuc, ◌+ℤ◌}
 use Rattle.std.specs.List.{AllByRecursion, list_any}
 use Rattle.std.proofs.lemmas.Bool.{false≢true}

@@ -1,7 +1,8 @@
-use Rattle.std.proofs.Common.{arith, [], ◌∷◌, ℕ, Option, Bool, true, false, cond, refl, ap, sym, ◌∙◌}
+use Rattle.std.proofs.Common.{arith, [], ◌∷◌, ℕ, Option, Bool, true, false, cond, if◌then◌else◌, refl, ap, sym, ◌∙◌}
 use Rattle.view_times.specs.declared.event.Event.TheVariants.{Modified}
+use Rattle.mount_requests.specs.Found.{inode_of}
 use Rattle.mount_requests.specs.Seen.{seen}
-use Rattle.mount_requests.specs.Times.{Events, are_one, of_both, of_exchanging, with_events}
+use Rattle.mount_requests.specs.Times.{Events, are_one, inode_named, of_both, of_exchanging, with_events}
 use Rattle.mount_requests.proofs.Noting.{noted_at, noted_then}
 use Rattle.mount_requests.proofs.tables.Tables.note_exchanging.Goals as goal
 
@@ -20,10 +21,11 @@ returns-then-are_one-clause-seen c =
     let node = c.args.first.now.parent in
     let one = c.inode_named-one.result in
     let other = c.inode_named-other.result in
-    sym (ap (λ (b : Bool). with_events node (if b then [] else (_, Modified) ∷ (_, Modified) ∷ of_both one other) s) (sym c.are_one.ensures ∙ c.if-are_one.true)
-    ∙ refl)
-    ∙ ap (λ o. with_events node (of_exchanging o other _ _) s) c.inode_named-one.ensures
-    ∙ ap (λ o. with_events node (of_exchanging _ o _ _) s) c.inode_named-other.ensures
+    let from = inode_of s node in
+    let to = inode_of s c.args.second.now.parent in
+    sym (ap (λ (b : Bool). with_events node (if b then [] else (from, Modified) ∷ (to, Modified) ∷ of_both one other) s) (sym c.are_one.ensures ∙ c.if-are_one.true))
+    ∙ ap (λ (o : Option ℕ). with_events node (of_exchanging o other from to) s) c.inode_named-one.ensures
+    ∙ ap (λ (o : Option ℕ). with_events node (of_exchanging (inode_named s node c.args.first.now.name) o from to) s) c.inode_named-other.ensures
 
 pub returns-clause-seen : goal.returns-clause-seen
 returns-clause-seen c =
