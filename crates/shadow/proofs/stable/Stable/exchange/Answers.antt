@@ -2,7 +2,7 @@ use Rattle.std.proofs.Common.{sym, ap, ◌∙◌}
 use Rattle.model.specs.State.{Kernel}
 use Rattle.model.specs.Changes.{Edit, applied, tidy}
 use Rattle.shadow.proofs.edits.UnusedNumbers.{same_swap}
-use Rattle.shadow.proofs.ranging.Stable.exchange.Goals as goal
+use Rattle.shadow.proofs.stable.Stable.exchange.Goals as goal
 
 pub returns-in-Swap-clause-state : goal.returns-in-Swap-clause-state
 returns-in-Swap-clause-state c =

@@ -9,7 +9,7 @@ use Rattle.shadow.specs.Stored.{Sound, state_of}
 use Rattle.shadow.proofs.shared.SoundnessLemmas.{less_of, state_is}
 use Rattle.shadow.proofs.edits.NewInodes.{named_in}
 use Rattle.shadow.proofs.edits.Exchanges.{first_dir, first_num, first_room, second_dir, second_num, second_room, swap_fits, swap_rooms, swapping_kept, swapping_sound, swapping_tidy}
-use Rattle.shadow.proofs.ranging.Stable.swap.Goals as goal
+use Rattle.shadow.proofs.stable.Stable.swap.Goals as goal
 
 pub add_name-requires-clause-room : goal.add_name-requires-clause-room
 add_name-requires-clause-room c = first_room c.self.inside.processes c.self.inside.store c.args.first.0 c.args.first.1 c.args.first.2 c.args.second.0 c.args.second.1 c.args.second.2 c.self.invariant (swap_fits c.self.inside.processes c.self.inside.store c.args.self.now c.self.view_is c.args.first.0 c.args.first.1 c.args.first.2 c.args.second.0 c.args.second.1 c.args.second.2 c.requires.fits) (swap_rooms c.self.inside.processes c.self.inside.store c.args.self.now c.self.view_is c.args.first.0 c.args.first.1 c.args.first.2 c.args.second.0 c.args.second.1 c.args.second.2 c.requires.covers)

@@ -5,7 +5,7 @@ use Rattle.notes.specs.Steps.{TakesIn}
 use Rattle.notes.proofs.InodeNotes.{only_inodes, same_inodes, same_then_takes}
 use Rattle.notes.proofs.Outcomes.{ok_so}
 use Rattle.notes.proofs.NameEdits.{swapping_takes}
-use Rattle.notes.proofs.exchanging.Patches.swap.Goals as goal
+use Rattle.notes.proofs.patches.Patches.swap.Goals as goal
 
 pub returns-clause-ok : goal.returns-clause-ok
 returns-clause-ok c =

@@ -1,5 +1,5 @@
 use Rattle.notes.proofs.NameEdits.{room_given, swap_undone}
-use Rattle.notes.proofs.exchanging.Inodes.note_swapped.Goals as goal
+use Rattle.notes.proofs.inodes.Inodes.note_swapped.Goals as goal
 
 pub take_back-requires-clause-room : goal.take_back-requires-clause-room
 take_back-requires-clause-room c =

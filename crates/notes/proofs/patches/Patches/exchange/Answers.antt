@@ -2,7 +2,7 @@ use Rattle.std.proofs.Common.{sym, subst}
 use Rattle.model.specs.Changes.{Edit}
 use Rattle.notes.specs.Steps.{TakesIn}
 use Rattle.notes.proofs.Outcomes.{ok_so}
-use Rattle.notes.proofs.exchanging.Patches.exchange.Goals as goal
+use Rattle.notes.proofs.patches.Patches.exchange.Goals as goal
 
 pub returns-in-Swap-clause-ok : goal.returns-in-Swap-clause-ok
 returns-in-Swap-clause-ok c =

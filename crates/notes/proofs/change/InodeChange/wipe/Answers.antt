@@ -4,7 +4,7 @@ use Rattle.notes.specs.Patches.{net_of}
 use Rattle.notes.specs.Steps.{bytes_written}
 use Rattle.notes.proofs.FileNotes.{filed_on}
 use Rattle.notes.proofs.Outcomes.{ok_three}
-use Rattle.notes.proofs.wiping.InodeChange.wipe.Goals as goal
+use Rattle.notes.proofs.change.InodeChange.wipe.Goals as goal
 
 pub returns-clause-ok : goal.returns-clause-ok
 returns-clause-ok c =

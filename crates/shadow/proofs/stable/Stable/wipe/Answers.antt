@@ -10,7 +10,7 @@ use Rattle.shadow.specs.Stored.{Sound, committed_of, state_of}
 use Rattle.shadow.proofs.edits.FileBytes.{file_still, file_there, former_is, swapped, swapped_twice, wiped_sound, wiped_state}
 use Rattle.shadow.proofs.shared.SoundnessLemmas.{same_of, state_is}
 use Rattle.shadow.proofs.freeing.RemainingPlaces.{file_keeps}
-use Rattle.shadow.proofs.ranging.Stable.wipe.Goals as goal
+use Rattle.shadow.proofs.stable.Stable.wipe.Goals as goal
 
 pub swap_file-data-requires : goal.swap_file-data-requires
 swap_file-data-requires c = file_there c.self.inside.store c.args.file (ap (λ (v : Committed). kind_of v.state c.args.file) c.self.view_is ∙ c.requires.file)

@@ -5,7 +5,7 @@ use Rattle.notes.specs.Steps.{TakesIn}
 use Rattle.notes.proofs.InodeNotes.{only_inodes, same_then_takes}
 use Rattle.notes.proofs.Outcomes.{ok_so}
 use Rattle.notes.proofs.FileEdits.{wipe_takes}
-use Rattle.notes.proofs.wiping.Patches.wipe.Goals as goal
+use Rattle.notes.proofs.patches.Patches.wipe.Goals as goal
 
 pub returns-clause-ok : goal.returns-clause-ok
 returns-clause-ok c =
