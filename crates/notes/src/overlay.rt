@@ -1,5 +1,5 @@
 // What an inode is like with a transaction's changes of its contents on top.
-ghost use Rattle.std.specs.Prelude.{◌≡◌, ◌≤◌, IfOk, IsSome, Option, drop};
+ghost use Rattle.std.specs.Prelude.{◌≡◌, ◌+◌, ◌≤◌, IfOk, IsSome, Option, drop};
 ghost use Rattle.std.specs.Prelude.{false, length, option_copied, take};
 ghost use Rattle.ids.specs.declared.limits.TheConstants.{LARGEST_FILE};
 ghost use Rattle.model.specs.FiniteMap.{get, keys};

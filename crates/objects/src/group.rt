@@ -1,5 +1,5 @@
 // Pieces of a file in a row.
-ghost use Rattle.std.specs.Prelude.{◌≡◌, ◌≢◌, ℕ, ◌+◌, ◌<◌, ◌≤◌, ◌⊎◌, [], length, take, OnOk};
+ghost use Rattle.std.specs.Prelude.{◌≡◌, ◌≢◌, ℕ, ◌+◌, ◌<◌, ◌≤◌, ◌⊎◌, [], length, take, true, OnOk};
 ghost use Rattle.model.specs.Changes.{written};
 ghost use Rattle.objects.specs.Contents.{Content};
 ghost use Rattle.objects.specs.Pieces.{LaidIn, WipedIn, piece_in};
