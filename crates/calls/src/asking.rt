@@ -1,6 +1,6 @@
 // The questions about files, pipes and descriptions, each with what it reads.
 ghost use Rattle.std.specs.Prelude.{◌≡◌, ◌+◌, ◌<◌, ◌≤◌};
-ghost use Rattle.std.specs.Prelude.{◌^◌, IfOk, OnOk, length, map, min, suc};
+ghost use Rattle.std.specs.Prelude.{◌^◌, IfOk, OnOk, length, map, min};
 ghost use Rattle.ids.specs.declared.limits.TheConstants.{LARGEST_FILE, MOST_MOVED};
 ghost use Rattle.model.specs.Aspects.{Block};
 ghost use Rattle.model.specs.Plan.{ask, Read_file, Count_ends, Find_offset, Read_pipe, Fit};

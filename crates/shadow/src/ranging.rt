@@ -1,6 +1,6 @@
 // Two names that change places, and bytes of a file that become zero, made at once in the committed
 // state.
-ghost use Rattle.std.specs.Prelude.{◌≡◌, ◌≤◌, ◌+◌, ℕ, List, [], Some};
+ghost use Rattle.std.specs.Prelude.{◌≡◌, ◌≤◌, ◌+◌, [], Some};
 ghost use Rattle.ids.specs.declared.limits.TheConstants.{LARGEST_FILE};
 ghost use Rattle.model.specs.State.{A_file, kind_of};
 ghost use Rattle.model.specs.Changes.{Swap, Wipe, applied, tidy};
