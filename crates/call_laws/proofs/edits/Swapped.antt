@@ -52,14 +52,13 @@ module _ (k : Kernel) (d : ℕ) (x : Name) (n e : ℕ) (y : Name) (m : ℕ) (is 
       ∙ set_here k d x m is
 
   -- A path goes as before, or what one of the names gave leads on from the last place where it went by that name.
-  After : (Type 0) → ℕ → List Name → ℕ → Type 0
+  abbrev After : (Type 0) → ℕ → List Name → ℕ → Type 0
   After P a path b =
       (Leads (set_name e y n (set_name d x m k)) a path b → P)
       → ((rest : List Name) → Leads k n rest b → Leads (set_name e y n (set_name d x m k)) n rest b → P)
       → ((rest : List Name) → Leads k m rest b → Leads (set_name e y n (set_name d x m k)) m rest b → P) → P
 
   follows : (P : Type 0) (b a : ℕ) (path : List Name) → Leads k a path b → After P a path b
-  unfolding After
   follows P b a [] h f g i = f h
   follows P b a (z ∷ zs) h f g i =
       follows P b h.0 zs h.2
@@ -115,7 +114,6 @@ no_way_back k well tree e y m rest rooted gives back =
 
 pub swapped_tree : (k : Kernel) (d : ℕ) (x : Name) (n e : ℕ) (y : Name) (m : ℕ) → WellFormed k → IsRooted k d → IsRooted k e → get (names_of k d) x ≡ Some n → get (names_of k e) y ≡ Some m → n ≢ m
     → ((path : List Name) → Leads k n path e → ⊥) → ((path : List Name) → Leads k m path d → ⊥) → HasPaths k → HasPaths (set_name e y n (set_name d x m k))
-unfolding After
 swapped_tree k d x n e y m well first second gives gives_too apart no_ring no_ring_back tree = record {
   leads = λ b r.
       let dir : kind_of k b ≡ Some A_directory = sym (kinds b) ∙ r.directory in
