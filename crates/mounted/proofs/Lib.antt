@@ -14,3 +14,4 @@ mod Leaving
 mod Asking
 mod Outcomes
 mod Apart
+mod Room
