@@ -13,7 +13,7 @@ use Rattle.course.specs.declared.made.Cut.{Cut}
 use Rattle.mount_tables.specs.Numbers.{is_reserved}
 use Rattle.mount_requests.specs.Answers.{Answers, AnswersIfRoom, Failed, IsPlanned, NoRoom, Refused, Told, Unplanned}
 use Rattle.mount_requests.specs.Failures.{and_then, error, failure_of}
-use Rattle.mount_requests.specs.Requests.{AnswersLookUp, AnswersLookUpBy, AnswersName, IsAnswered, OpensAs, making_open, put_by}
+use Rattle.mount_requests.specs.Requests.{AnswersLookUp, AnswersLookUpBy, AnswersName, IsAnswered, IsOfFiles, IsOfNames, OpensAs, making_open, put_by}
 use Rattle.mount_requests.specs.Seen.{Seen}
 use Rattle.mount_requests.specs.declared.failure.Failure.{Failure}
 use Rattle.mount_requests.specs.declared.opening.Creation.{Creation}
@@ -90,6 +90,12 @@ not_reserved s later pid node name {old} {new} {r} e h = subst (λ (b : Bool). A
 
 pub answers : (s later : Seen) (pid : ℕ) (who : Caller) {o p : Operation} (old new : Shown) (r : Result Reply Failure) → o ≡ p → IsAnswered s later pid who p old new r → IsAnswered s later pid who o old new r
 answers s later pid who old new r e h = subst (λ (x : Operation). IsAnswered s later pid who x old new r) (sym e) h
+
+pub answers_names : (s later : Seen) (pid : ℕ) (who : Caller) {o p : Operation} (old new : Shown) (r : Result Reply Failure) → o ≡ p → IsOfNames s later pid who p old new r → IsOfNames s later pid who o old new r
+answers_names s later pid who old new r e h = subst (λ (x : Operation). IsOfNames s later pid who x old new r) (sym e) h
+
+pub answers_files : (s later : Seen) (pid node : ℕ) {o p : Operation} (old new : Shown) (r : Result Reply Failure) → o ≡ p → IsOfFiles s later pid node p old new r → IsOfFiles s later pid node o old new r
+answers_files s later pid node old new r e h = subst (λ (x : Operation). IsOfFiles s later pid node x old new r) (sym e) h
 
 -- the same process, and the same state
 pub answered_as : (s later : Seen) {pid process : ℕ} (who : Caller) (operation : Operation) {old before : Shown} (new : Shown) (r : Result Reply Failure) → process ≡ pid → before ≡ old → IsAnswered s later process who operation before new r → IsAnswered s later pid who operation old new r

@@ -1,7 +1,7 @@
 // Requests about nodes of a tree.
 ghost use Rattle.std.specs.Prelude.{◌≡◌};
 ghost use Rattle.course.specs.Hands.{bound};
-ghost use Rattle.mount_requests.specs.Requests.{IsAnswered};
+ghost use Rattle.mount_requests.specs.Requests.{IsAnswered, IsOfFiles, IsOfNames};
 ghost use Rattle.mount_requests.specs.Seen.{seen};
 
 use crate::failure::Failure;
@@ -55,6 +55,23 @@ impl Tables {
                 };
                 self.read_folder(hand, node, wanted)
             }
+            operation => self.answer_of_names(hand, caller, operation),
+        }
+    }
+
+    // Requests by which names change, and those on open files.
+    fn answer_of_names<K: Machine>(
+        &mut self,
+        hand: &mut Hand<K>,
+        caller: Caller,
+        operation: Operation,
+    ) -> Result<Reply, Failure>
+        ensures bound { bound hand.new ≡ bound hand.old }
+        ensures answers { IsOfNames (seen self.old) (seen self.new) hand.old.pid caller operation
+            hand.old.shown hand.new.shown result }
+    {
+        let node = caller.node;
+        match operation {
             Operation::SymLink { name, target } => self.make_link(hand, caller, &name, target),
             Operation::MkNod { name, mode } => self.make_node(hand, caller, &name, mode),
             Operation::MkDir { name, mode } => self.make_directory(hand, caller, &name, mode),
@@ -76,6 +93,22 @@ impl Tables {
                 new_name,
                 flags,
             } => self.move_name(hand, node, &name, new_parent, &new_name, flags),
+            operation => self.answer_of_files(hand, node, operation),
+        }
+    }
+
+    // Requests on open files. Others are not served.
+    fn answer_of_files<K: Machine>(
+        &mut self,
+        hand: &mut Hand<K>,
+        node: u64,
+        operation: Operation,
+    ) -> Result<Reply, Failure>
+        ensures bound { bound hand.new ≡ bound hand.old }
+        ensures answers { IsOfFiles (seen self.old) (seen self.new) hand.old.pid node operation
+            hand.old.shown hand.new.shown result }
+    {
+        match operation {
             Operation::Open { flags, how } => self.open(hand, node, flags, how),
             Operation::Read {
                 handle,
