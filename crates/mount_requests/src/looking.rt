@@ -2,7 +2,7 @@
 ghost use Rattle.std.specs.Prelude.{◌≡◌, ◌<◌, IfOk};
 ghost use Rattle.nodes.specs.Tables.{looked_up};
 ghost use Rattle.course.specs.Hands.{bound};
-ghost use Rattle.mount_tables.specs.Attributes.{IsLike};
+ghost use Rattle.mount_tables.specs.Attributes.{IsLike, IsOfNode};
 ghost use Rattle.mount_requests.specs.Answers.{IsPlanned};
 ghost use Rattle.mount_requests.specs.Requests.{AnswersGetAttr, AnswersLookUp, AnswersName};
 ghost use Rattle.mount_requests.specs.Requests.{AnswersReadLink, IsReserved, linked};
@@ -48,7 +48,8 @@ impl Tables {
 
     /// What is told of a node that is no object of the kernel.
     pub fn entry_of_node(&self, node: u64, is_directory: bool) -> Entry
-        ensures { result.node ≡ node }
+        ensures node { result.node ≡ node }
+        ensures attr { IsOfNode node is_directory (seen self.now).time result.attr }
     {
         Entry {
             node,

@@ -1,6 +1,6 @@
 // What is told of objects.
 ghost use Rattle.std.specs.Prelude.{◌≡◌, ◌+◌, ◌*◌, ◌<◌};
-ghost use Rattle.mount_tables.specs.Attributes.{IsLike, kind_number};
+ghost use Rattle.mount_tables.specs.Attributes.{IsLike, IsOfNode, kind_number};
 
 use fuse::{Attr, Time};
 use ids::{Kind, Permissions, Stat};
@@ -70,7 +70,9 @@ pub fn attr_of(stat: &Stat, times: Times) -> Attr
 }
 
 /// What is told now of a node that is no object of the kernel.
-pub fn attr_of_node(node: u64, is_directory: bool, now: Time) -> Attr {
+pub fn attr_of_node(node: u64, is_directory: bool, now: Time) -> Attr
+    ensures { IsOfNode node is_directory now result }
+{
     Attr {
         inode: node,
         size: 0,

@@ -1,9 +1,11 @@
 // Requests about the directory of transactions.
-ghost use Rattle.std.specs.Prelude.{◌≡◌, ◌≤◌, ◌<◌, ◌==◌, ◌&&◌, Result, Some, IfErr, IfOk, option_map};
+ghost use Rattle.std.specs.Prelude.{◌≡◌, ◌≤◌, ◌<◌, ◌==◌, ◌&&◌, Result, Some, IfErr, IfOk, is_some, option_map};
 ghost use Rattle.course.specs.Course.{Ran};
 ghost use Rattle.course.specs.Courses.{giving_up};
 ghost use Rattle.course.specs.Hands.{Stand, bound};
 ghost use Rattle.mount_requests.specs.Seen.{seen};
+ghost use Rattle.mount_tables.specs.Attributes.{IsOfNode};
+ghost use Rattle.mount_tables.specs.Numbers.{view_of};
 ghost use Rattle.mounted.specs.Controls.{AsksTransactions, BeganBy, Begins, Closed, ClosedIf};
 ghost use Rattle.mounted.specs.Controls.{IsWithoutFiles, LeavesAs, Left, ListsSome, NotBegun, OnlyFiles, Opens, Removes};
 ghost use Rattle.mounted.specs.Controls.{ServesTransactions, ShowsNode, control_of, gone, leaving_in};
@@ -79,7 +81,8 @@ fn names_of_transactions(tables: &Tables) -> Result<NameList, AllocError> {
 
 // What is told of a node that is no object of the kernel.
 fn entry_of_node(tables: &Tables, node: u64) -> Entry
-    ensures { result.node ≡ node }
+    ensures node { result.node ≡ node }
+    ensures attr { IsOfNode node (is_some (view_of node)) (seen tables.now).time result.attr }
 {
     let is_directory = view_of(node).is_some();
     Entry {
