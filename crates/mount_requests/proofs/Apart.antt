@@ -23,7 +23,7 @@ use Rattle.mount_requests.specs.Found.{inode_of}
 use Rattle.mount_requests.specs.Later.{with_creation}
 use Rattle.mount_requests.specs.Requests.{AnswersLookUpBy, IsAnswered, born_if, with_opening}
 use Rattle.mount_requests.specs.Seen.{Seen}
-use Rattle.mount_requests.specs.Times.{Events, inode_named, of_cutting, of_linking, of_making, of_moving, of_removing, of_setting, of_writing, view_at, with_each, with_events_if}
+use Rattle.mount_requests.specs.Times.{Events, inode_named, of_cutting, of_linking, of_making, of_removing, of_renaming, of_setting, of_writing, view_at, with_each, with_events_if}
 use Rattle.mount_requests.specs.declared.failure.Failure.{Failure}
 use Rattle.mount_requests.specs.declared.opening.Opening.{Opening}
 use Rattle.mount_requests.specs.declared.opening.Opening.TheVariants.{Again, First}
@@ -120,7 +120,7 @@ answered_apart s later pid who (asked.MkNod y z) old new r live h = answers_apar
 answered_apart s later pid who (asked.MkDir y z) old new r live h = answers_apart (view_at s who.node) (λ p x known told k. apart_to s (view_at s who.node) k.1 (apart_birth s (view_at s who.node) _ x.num (of_making x.num (inode_of s who.node)) live (births_stay (made s.nodes x.num) _ x.num x.kind) refl)) h
 answered_apart s later pid who (asked.Unlink name) old new r live h = answers_apart (view_at s who.node) (λ p x known told k. apart_to s (view_at s who.node) k.1 (apart_events s (view_at s who.node) _ (of_removing (inode_named s who.node name) (inode_of s who.node)) live refl)) h
 answered_apart s later pid who (asked.RmDir name) old new r live h = answers_apart (view_at s who.node) (λ p x known told k. apart_to s (view_at s who.node) k.1 (apart_events s (view_at s who.node) _ (of_removing (inode_named s who.node name) (inode_of s who.node)) live refl)) h
-answered_apart s later pid who (asked.Rename name new_node new_name flags) old new r live h = answers_apart (view_at s who.node) (λ p x known told k. apart_to s (view_at s who.node) k.1 (apart_events s (view_at s who.node) _ (of_moving (inode_named s who.node name) (inode_of s who.node) (inode_of s new_node)) live refl)) h
+answered_apart s later pid who (asked.Rename name new_node new_name flags) old new r live h = answers_apart (view_at s who.node) (λ p x known told k. apart_to s (view_at s who.node) k.1 (apart_events s (view_at s who.node) _ (of_renaming (inode_named s who.node name) (inode_named s new_node new_name) (inode_of s who.node) (inode_of s new_node)) live refl)) h
 answered_apart s later pid who (asked.Link x y) old new r live h = answers_apart (view_at s who.node) (λ p x known told k. apart_to s (view_at s who.node) k.1 (apart_events s (view_at s who.node) _ (of_linking p.inode (inode_of s who.node)) live refl)) h
 answered_apart s later pid who (asked.Create x y z w) old new r live h = answers_apart (view_at s who.node) (λ p made_file known told k. apart_to s (view_at s who.node) k.1 (created_apart s who.node made_file.is_new (cut_by y w) made_file.stat.num _ live (births_stay (born_if made_file.is_new s.nodes made_file.stat.num) _ made_file.stat.num made_file.stat.kind) refl)) h
 answered_apart s later pid who (asked.Open x y) old new r live h = answers_apart (view_at s who.node) (λ p fd known told k. apart_to s (view_at s who.node) k.1 (opening_apart s who.node pid (cut_by x y) p fd live)) h

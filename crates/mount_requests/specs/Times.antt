@@ -1,6 +1,6 @@
 -- What requests do to times: which event of which inode each one is, in the view of its node. A look-up,
 -- a read and a list change no time, as where a disk is mounted with noatime.
-use Rattle.std.specs.Prelude.{ℕ, ◌||◌, List, [], ◌∷◌, Bool, true, false}
+use Rattle.std.specs.Prelude.{ℕ, ◌==◌, ◌||◌, List, [], ◌∷◌, Bool, true, false}
 use Rattle.std.specs.Prelude.{Option, Some, None, is_some, option_and_then, option_map, if◌then◌else◌}
 use Rattle.model.specs.FiniteMap as map
 use Rattle.fuse.specs.declared.request.Changes.{Changes}
@@ -47,6 +47,16 @@ of_removing lost directory = (directory, Modified) ∷ of_names lost
 -- the directories of a rename, and what is moved
 abbrev pub of_moving : Option ℕ → ℕ → ℕ → Events
 of_moving moved from to = (from, Modified) ∷ (to, Modified) ∷ of_names moved
+
+-- whether two names gave one object
+abbrev pub gave_one : Option ℕ → Option ℕ → Bool
+gave_one (Some one) (Some other) = one == other
+gave_one (Some one) None = false
+gave_one None there = false
+
+-- A rename from one name of an object to another one does nothing (rename, POSIX).
+abbrev pub of_renaming : Option ℕ → Option ℕ → ℕ → ℕ → Events
+of_renaming moved there from to = if gave_one moved there then [] else of_moving moved from to
 
 -- bytes that are written
 abbrev pub of_writing : ℕ → Events

@@ -7,7 +7,8 @@ ghost use Rattle.mount_requests.specs.Found.{inode_of};
 ghost use Rattle.mount_requests.specs.Later.{with_aborted};
 ghost use Rattle.mount_requests.specs.Seen.{seen};
 ghost use Rattle.mount_requests.specs.Times.{at_time, inode_named, of_changes, of_cutting};
-ghost use Rattle.mount_requests.specs.Times.{of_linking, of_making, of_moving, of_removing, of_setting};
+ghost use Rattle.mount_requests.specs.Times.{of_linking, of_making, of_moving, of_removing, of_renaming, of_setting};
+ghost use Rattle.mount_requests.specs.Times.{gave_one};
 ghost use Rattle.mount_requests.specs.Times.{of_writing, time_in, times_at, times_if, view_at};
 ghost use Rattle.mount_requests.specs.Times.{noted_in, of_names, with_events, with_events_if};
 
@@ -181,7 +182,7 @@ impl Tables {
     }
 
     // A name goes from its directory to another one, which a node gives.
-    pub(crate) fn note_going(&mut self, entry: &DirectoryEntry, new_parent: u64)
+    fn note_going(&mut self, entry: &DirectoryEntry, new_parent: u64)
         requires { 3 ≤ room_of self.old.times (view_at (seen self.old) entry.now.parent) }
         ensures seen { seen self.new ≡ with_events entry.now.parent
             (of_moving (inode_named (seen self.old) entry.now.parent entry.now.name)
@@ -197,6 +198,37 @@ impl Tables {
         self.note(view, from, Event::Modified);
         self.note(view, to, Event::Modified);
         self.note_name(view, moved);
+    }
+
+    // Whether two names gave one object when they were looked up last.
+    fn gave_one(&self, one: &DirectoryEntry, other: &DirectoryEntry) -> bool
+        ensures { result ≡ gave_one
+            (inode_named (seen self.now) one.now.parent one.now.name)
+            (inode_named (seen self.now) other.now.parent other.now.name) }
+    {
+        let Some(inode) = self.inode_named(one) else {
+            return false;
+        };
+        let Some(there) = self.inode_named(other) else {
+            return false;
+        };
+        inode == there
+    }
+
+    // A name is moved to another one: nothing is noted where both gave one object.
+    pub(crate) fn note_renamed(&mut self, entry: &DirectoryEntry, new: &DirectoryEntry)
+        requires { 3 ≤ room_of self.old.times (view_at (seen self.old) entry.now.parent) }
+        ensures seen { seen self.new ≡ with_events entry.now.parent
+            (of_renaming (inode_named (seen self.old) entry.now.parent entry.now.name)
+            (inode_named (seen self.old) new.now.parent new.now.name)
+            (inode_of (seen self.old) entry.now.parent) (inode_of (seen self.old) new.now.parent))
+            (seen self.old) }
+        ensures nodes { self.new.nodes ≡ self.old.nodes }
+        ensures files { self.new.files ≡ self.old.files }
+    {
+        if !self.gave_one(entry, new) {
+            self.note_going(entry, new.parent);
+        }
     }
 
     // Bytes of an object were written, by a request about this node.
