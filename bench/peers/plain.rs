@@ -50,6 +50,12 @@ enum Op {
     Truncate(Vec<u8>, usize),
     Rename(Vec<u8>, Vec<u8>),
     Unlink(Vec<u8>),
+    Symlink(Vec<u8>, Vec<u8>),
+    Readlink(Vec<u8>),
+    Lstat(Vec<u8>),
+    Mknod(Vec<u8>),
+    Chmod(Vec<u8>, u16),
+    Chown(Vec<u8>, u32, u32),
     Pipe,
     Fork,
     Exit,
@@ -64,7 +70,7 @@ enum Reply {
     Pair(usize, usize),
     Count(usize),
     Bytes(Vec<u8>),
-    Stat { number: usize, size: usize, links: usize },
+    Stat { number: usize, size: usize, links: usize, rights: Rights },
     Names(Vec<Vec<u8>>),
     Child(usize),
     Errno(Errno),
@@ -84,7 +90,28 @@ enum Inode {
     Directory(Names),
     File { bytes: Vec<u8>, links: usize, openings: usize },
     Pipe { bytes: VecDeque<u8>, readers: usize, writers: usize },
+    /// A symbolic link with its target, or a FIFO without one.
+    Fixed { target: Option<Vec<u8>>, links: usize },
     Gone,
+}
+
+/// Who may do what with an inode, and whose it is.
+#[derive(Clone, Copy)]
+#[allow(dead_code)] // Replies keep it all.
+struct Rights {
+    permissions: u16,
+    user: u32,
+    group: u32,
+}
+
+/// Those of a new inode.
+fn first_rights(inode: &Inode) -> Rights {
+    let permissions = match inode {
+        Inode::Directory(_) => 0o755,
+        Inode::Fixed { target: Some(_), .. } => 0o777,
+        _ => 0o644,
+    };
+    Rights { permissions, user: 0, group: 0 }
 }
 
 /// What a descriptor stands for. Children share it.
@@ -102,6 +129,8 @@ type Answer = Result<Reply, Errno>;
 /// The plain kernel.
 struct Kernel {
     inodes: Vec<Inode>,
+    /// The rights of each inode.
+    rights: Vec<Rights>,
     free: Vec<usize>,
     descriptions: Vec<Description>,
     free_descriptions: Vec<usize>,
@@ -139,8 +168,10 @@ fn part(bytes: &[u8], offset: usize, count: usize) -> &[u8] {
 
 impl Kernel {
     fn new() -> Kernel {
+        let root = Inode::Directory(Names::new());
         Kernel {
-            inodes: vec![Inode::Directory(Names::new())],
+            rights: vec![first_rights(&root)],
+            inodes: vec![root],
             free: Vec::new(),
             descriptions: Vec::new(),
             free_descriptions: Vec::new(),
@@ -179,6 +210,12 @@ impl Kernel {
             Op::Truncate(path, length) => self.truncate(path, *length),
             Op::Rename(old, new) => self.rename(old, new),
             Op::Unlink(path) => self.unlink(path),
+            Op::Symlink(target, path) => self.symlink(target, path),
+            Op::Readlink(path) => self.readlink(path),
+            Op::Lstat(path) => self.lstat(path),
+            Op::Mknod(path) => self.mknod(path),
+            Op::Chmod(path, permissions) => self.chmod(path, *permissions),
+            Op::Chown(path, user, group) => self.chown(path, *user, *group),
             Op::Pipe => self.pipe(process),
             Op::Fork => self.fork(process),
             Op::Exit => self.exit(process),
@@ -230,13 +267,16 @@ impl Kernel {
     }
 
     fn add_inode(&mut self, inode: Inode) -> usize {
+        let rights = first_rights(&inode);
         match self.free.pop() {
             Some(number) => {
                 self.inodes[number] = inode;
+                self.rights[number] = rights;
                 number
             }
             None => {
                 self.inodes.push(inode);
+                self.rights.push(rights);
                 self.inodes.len() - 1
             }
         }
@@ -269,7 +309,57 @@ impl Kernel {
             Inode::File { bytes, links, .. } => (bytes.len(), *links),
             _ => (0, 1),
         };
-        Ok(Reply::Stat { number, size, links })
+        Ok(Reply::Stat { number, size, links, rights: self.rights[number] })
+    }
+
+    /// A walk goes on by no symbolic link, so this is `stat` where it does not end at one.
+    fn lstat(&self, path: &[u8]) -> Answer {
+        let number = self.find(path)?;
+        match &self.inodes[number] {
+            Inode::Fixed { target, links } => {
+                let size = target.as_ref().map_or(0, Vec::len);
+                Ok(Reply::Stat { number, size, links: *links, rights: self.rights[number] })
+            }
+            _ => self.stat(path),
+        }
+    }
+
+    fn symlink(&mut self, target: &[u8], path: &[u8]) -> Answer {
+        let (directory, name) = self.parent(path)?;
+        let target = Some(target.to_vec());
+        self.create(directory, name, Inode::Fixed { target, links: 1 })?;
+        Ok(Reply::Done)
+    }
+
+    fn readlink(&self, path: &[u8]) -> Answer {
+        match &self.inodes[self.find(path)?] {
+            Inode::Fixed { target: Some(target), .. } => Ok(Reply::Bytes(target.clone())),
+            _ => Err(Errno::Invalid),
+        }
+    }
+
+    fn mknod(&mut self, path: &[u8]) -> Answer {
+        let (directory, name) = self.parent(path)?;
+        self.create(directory, name, Inode::Fixed { target: None, links: 1 })?;
+        Ok(Reply::Done)
+    }
+
+    fn chmod(&mut self, path: &[u8], permissions: u16) -> Answer {
+        let number = self.find(path)?;
+        self.rights[number].permissions = permissions;
+        Ok(Reply::Done)
+    }
+
+    fn chown(&mut self, path: &[u8], user: u32, group: u32) -> Answer {
+        let number = self.find(path)?;
+        let Rights { permissions, .. } = self.rights[number];
+        let permissions = match &self.inodes[number] {
+            Inode::Directory(_) => permissions,
+            _ if permissions & 0o10 != 0 => permissions & 0o1777,
+            _ => permissions & 0o3777,
+        };
+        self.rights[number] = Rights { permissions, user, group };
+        Ok(Reply::Done)
     }
 
     fn rmdir(&mut self, path: &[u8]) -> Answer {
@@ -457,18 +547,31 @@ impl Kernel {
 
     /// One name less gives the file.
     fn drop_link(&mut self, number: usize) {
-        if let Inode::File { links, openings, .. } = &mut self.inodes[number] {
-            *links -= 1;
-            if *links + *openings == 0 {
-                self.remove_inode(number);
+        let left = match &mut self.inodes[number] {
+            Inode::File { links, openings, .. } => {
+                *links -= 1;
+                *links + *openings
             }
+            Inode::Fixed { links, .. } => {
+                *links -= 1;
+                *links
+            }
+            _ => return,
+        };
+        if left == 0 {
+            self.remove_inode(number);
         }
+    }
+
+    /// Whether names can be taken from it one by one: it is no directory.
+    fn has_links(&self, number: usize) -> bool {
+        matches!(&self.inodes[number], Inode::File { .. } | Inode::Fixed { .. })
     }
 
     fn unlink(&mut self, path: &[u8]) -> Answer {
         let (directory, name) = self.parent(path)?;
         let number = self.look(directory, name)?;
-        if !matches!(&self.inodes[number], Inode::File { .. }) {
+        if !self.has_links(number) {
             return Err(Errno::IsDirectory);
         }
         self.names_mut(directory)?.remove(name);
@@ -481,15 +584,13 @@ impl Kernel {
         let (from, old_name) = self.parent(old)?;
         let (to, new_name) = self.parent(new)?;
         let moved = self.look(from, old_name)?;
-        let is_file = matches!(&self.inodes[moved], Inode::File { .. });
+        let is_file = self.has_links(moved);
         if !is_file && new.starts_with(old) && new.get(old.len()) == Some(&b'/') {
             return Err(Errno::Invalid);
         }
         let replaced = self.names(to)?.get(new_name).copied();
-        match replaced.map(|number| &self.inodes[number]) {
-            None => {}
-            Some(Inode::File { .. }) if is_file => {}
-            Some(_) => return Err(Errno::Exists),
+        if replaced.is_some_and(|number| !is_file || !self.has_links(number)) {
+            return Err(Errno::Exists);
         }
         if replaced == Some(moved) {
             return Ok(Reply::Done);
@@ -539,6 +640,8 @@ impl Kernel {
 }
 
 const DEEP: &[u8] = b"/p/p/p/p/p/p/p/p";
+
+const TARGET: &[u8] = b"../some/where";
 
 /// The number of the i-th new name: as in crates/bench/src/paths.rt.
 fn scattered(i: u64) -> u64 {
@@ -658,6 +761,28 @@ fn print_opened(kernel: &mut Kernel) {
     step(kernel, 1, Op::Unlink(b"/o".to_vec()));
 }
 
+/// The rows of symbolic links and of FIFOs.
+fn print_fixed(kernel: &mut Kernel) {
+    new_names(kernel, "symlink of 1000 names", 1000, |kernel, number| {
+        step(kernel, 1, Op::Symlink(TARGET.to_vec(), path(b'l', number)));
+    });
+    old_names(kernel, "readlink", 1000, |kernel, number| {
+        step(kernel, 1, Op::Readlink(path(b'l', number)));
+    });
+    old_names(kernel, "lstat of a symbolic link", 1000, |kernel, number| {
+        step(kernel, 1, Op::Lstat(path(b'l', number)));
+    });
+    old_names(kernel, "unlink of a symbolic link", 1000, |kernel, number| {
+        step(kernel, 1, Op::Unlink(path(b'l', number)));
+    });
+    new_names(kernel, "mknod of 1000 FIFOs", 1000, |kernel, number| {
+        step(kernel, 1, Op::Mknod(path(b'l', number)));
+    });
+    old_names(kernel, "unlink of a FIFO", 1000, |kernel, number| {
+        step(kernel, 1, Op::Unlink(path(b'l', number)));
+    });
+}
+
 fn print_small() {
     let kernel = &mut prepared();
     for _ in 0..8 {
@@ -679,12 +804,19 @@ fn print_small() {
         old_names(kernel, "truncate of one file of 1000", 1000, |kernel, number| {
             step(kernel, 1, Op::Truncate(path(b'f', number), 32));
         });
+        old_names(kernel, "chmod of one file of 1000", 1000, |kernel, number| {
+            step(kernel, 1, Op::Chmod(path(b'f', number), 0o755));
+        });
+        old_names(kernel, "chown of one file of 1000", 1000, |kernel, number| {
+            step(kernel, 1, Op::Chown(path(b'f', number), 1, 2));
+        });
         old_names(kernel, "rename", 1000, |kernel, number| {
             step(kernel, 1, Op::Rename(path(b'f', number), path(b'g', number)));
         });
         old_names(kernel, "unlink", 1000, |kernel, number| {
             step(kernel, 1, Op::Unlink(path(b'g', number)));
         });
+        print_fixed(kernel);
         old_names(kernel, "pipe, write and read 64 bytes", 1000, |kernel, _| pass(kernel));
         old_names(kernel, "fork and exit", 400, |kernel, _| fork(kernel));
         print_opened(kernel);

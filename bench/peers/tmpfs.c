@@ -161,6 +161,21 @@ static void do_truncate(uint64_t number)
     must(truncate(path, 32), "truncate");
 }
 
+static void do_chmod(uint64_t number)
+{
+    char path[16];
+    set_path(path, 'f', number);
+    must(chmod(path, 0755), "chmod");
+}
+
+/* To the one who runs this, since nobody else may be named without rights. */
+static void do_chown(uint64_t number)
+{
+    char path[16];
+    set_path(path, 'f', number);
+    must(chown(path, getuid(), getgid()), "chown");
+}
+
 static void do_rename(uint64_t number)
 {
     char old[16], new[16];
@@ -173,6 +188,45 @@ static void do_unlink(uint64_t number)
 {
     char path[16];
     set_path(path, 'g', number);
+    must(unlink(path), "unlink");
+}
+
+#define TARGET "../some/where"
+
+static void do_symlink(uint64_t number)
+{
+    char path[16];
+    set_path(path, 'l', number);
+    must(symlink(TARGET, path), "symlink");
+}
+
+static void do_readlink(uint64_t number)
+{
+    char path[16], target[sizeof TARGET];
+    set_path(path, 'l', number);
+    if (readlink(path, target, sizeof target) != sizeof TARGET - 1)
+        fail("readlink");
+}
+
+static void do_lstat(uint64_t number)
+{
+    char path[16];
+    struct stat found;
+    set_path(path, 'l', number);
+    must(lstat(path, &found), "lstat");
+}
+
+static void do_mknod(uint64_t number)
+{
+    char path[16];
+    set_path(path, 'l', number);
+    must(mknod(path, S_IFIFO | 0644, 0), "mknod");
+}
+
+static void do_unlink_fixed(uint64_t number)
+{
+    char path[16];
+    set_path(path, 'l', number);
     must(unlink(path), "unlink");
 }
 
@@ -252,8 +306,16 @@ static void small(void)
         new_names("create, write 64 bytes, close", 1000, do_create);
         old_names("open, read 64 bytes, close", 1000, do_read);
         old_names("truncate of one file of 1000", 1000, do_truncate);
+        old_names("chmod of one file of 1000", 1000, do_chmod);
+        old_names("chown of one file of 1000", 1000, do_chown);
         old_names("rename", 1000, do_rename);
         old_names("unlink", 1000, do_unlink);
+        new_names("symlink of 1000 names", 1000, do_symlink);
+        old_names("readlink", 1000, do_readlink);
+        old_names("lstat of a symbolic link", 1000, do_lstat);
+        old_names("unlink of a symbolic link", 1000, do_unlink_fixed);
+        new_names("mknod of 1000 FIFOs", 1000, do_mknod);
+        old_names("unlink of a FIFO", 1000, do_unlink_fixed);
         old_names("pipe, write and read 64 bytes", 1000, do_pipe);
         old_names("fork and exit", 100, do_fork);
         opened();

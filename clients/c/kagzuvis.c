@@ -230,6 +230,25 @@ static void put_byte(kagzuvis *kernel, unsigned char byte)
     put_word(kernel, word);
 }
 
+static void put_mode(kagzuvis *kernel, unsigned mode)
+{
+    char word[16];
+
+    snprintf(word, sizeof word, "%o", mode);
+    put_word(kernel, word);
+    if (mode > 07777)
+        spoil(kernel, KAGZUVIS_MISUSED);
+}
+
+/* Puts the user or the group of an owner. */
+static void put_owner(kagzuvis *kernel, uint32_t number)
+{
+    if (number == KAGZUVIS_SAME)
+        put_word(kernel, "-");
+    else
+        put_number(kernel, number);
+}
+
 /* Begins the line of an operation, under the word by which it is asked. */
 static void begin_line(kagzuvis *kernel, unsigned process, const char *word)
 {
@@ -418,25 +437,29 @@ int kagzuvis_truncate(kagzuvis *kernel, unsigned process, const char *path, uint
     return ask(kernel, process, TRUNCATE);
 }
 
-int kagzuvis_stat(kagzuvis *kernel, unsigned process, const char *path, struct kagzuvis_stat *stat)
+/* Takes what an object is told to be, where the call is done. */
+static int take_stat(kagzuvis *kernel, int done, struct kagzuvis_stat *stat)
 {
-    int done = on_path(kernel, process, STAT_PATH, path);
-
     if (done == 0)
         *stat = kernel->last.stat;
     return done;
 }
 
+int kagzuvis_stat(kagzuvis *kernel, unsigned process, const char *path, struct kagzuvis_stat *stat)
+{
+    return take_stat(kernel, on_path(kernel, process, STAT_PATH, path), stat);
+}
+
+int kagzuvis_lstat(kagzuvis *kernel, unsigned process, const char *path, struct kagzuvis_stat *stat)
+{
+    return take_stat(kernel, on_path(kernel, process, LSTAT, path), stat);
+}
+
 int kagzuvis_fstat(kagzuvis *kernel, unsigned process, int fd, struct kagzuvis_stat *stat)
 {
-    int done;
-
     begin_call(kernel, process, FSTAT);
     put_fd(kernel, fd);
-    done = ask(kernel, process, FSTAT);
-    if (done == 0)
-        *stat = kernel->last.stat;
-    return done;
+    return take_stat(kernel, ask(kernel, process, FSTAT), stat);
 }
 
 int kagzuvis_link(kagzuvis *kernel, unsigned process, const char *old_path, const char *new_path)
@@ -500,6 +523,69 @@ struct kagzuvis_names *kagzuvis_list(kagzuvis *kernel, unsigned process, const c
         fail(kernel, KAGZUVIS_SYSTEM);
     }
     return names;
+}
+
+int kagzuvis_symlink(kagzuvis *kernel, unsigned process, const char *target, const char *path)
+{
+    return on_paths(kernel, process, SYMLINK, target, path);
+}
+
+long kagzuvis_readlink(kagzuvis *kernel, unsigned process, const char *path, char *buffer, size_t room)
+{
+    size_t length;
+
+    if (on_path(kernel, process, READLINK, path) != 0)
+        return -1;
+    length = kernel->last.length < room ? kernel->last.length : room;
+    if (length > LINE_LIMIT)
+        return fail(kernel, KAGZUVIS_BAD_ANSWER);
+    if (length > 0)
+        memcpy(buffer, kernel->last.bytes, length);
+    return (long)length;
+}
+
+int kagzuvis_mknod(kagzuvis *kernel, unsigned process, const char *path, enum kagzuvis_kind kind)
+{
+    begin_call(kernel, process, MKNOD);
+    put_path(kernel, path);
+    put_word(kernel, kind == KAGZUVIS_FIFO ? "fifo" : "socket");
+    if (kind != KAGZUVIS_FIFO && kind != KAGZUVIS_SOCKET)
+        spoil(kernel, KAGZUVIS_MISUSED);
+    return ask(kernel, process, MKNOD);
+}
+
+int kagzuvis_chmod(kagzuvis *kernel, unsigned process, const char *path, unsigned mode)
+{
+    begin_call(kernel, process, CHMOD);
+    put_path(kernel, path);
+    put_mode(kernel, mode);
+    return ask(kernel, process, CHMOD);
+}
+
+int kagzuvis_fchmod(kagzuvis *kernel, unsigned process, int fd, unsigned mode)
+{
+    begin_call(kernel, process, FCHMOD);
+    put_fd(kernel, fd);
+    put_mode(kernel, mode);
+    return ask(kernel, process, FCHMOD);
+}
+
+int kagzuvis_chown(kagzuvis *kernel, unsigned process, const char *path, uint32_t user, uint32_t group)
+{
+    begin_call(kernel, process, CHOWN);
+    put_path(kernel, path);
+    put_owner(kernel, user);
+    put_owner(kernel, group);
+    return ask(kernel, process, CHOWN);
+}
+
+int kagzuvis_fchown(kagzuvis *kernel, unsigned process, int fd, uint32_t user, uint32_t group)
+{
+    begin_call(kernel, process, FCHOWN);
+    put_fd(kernel, fd);
+    put_owner(kernel, user);
+    put_owner(kernel, group);
+    return ask(kernel, process, FCHOWN);
 }
 
 int kagzuvis_dup(kagzuvis *kernel, unsigned process, int fd)

@@ -32,12 +32,14 @@ enum kagzuvis_error {
     KAGZUVIS_EFBIG,
     KAGZUVIS_EINVAL,
     KAGZUVIS_EISDIR,
+    KAGZUVIS_ELOOP,
     KAGZUVIS_EMFILE,
     KAGZUVIS_ENAMETOOLONG,
     KAGZUVIS_ENOENT,
     KAGZUVIS_ENOTDIR,
     KAGZUVIS_ENOTEMPTY,
     KAGZUVIS_ENOTSUP,
+    KAGZUVIS_ENXIO,
     KAGZUVIS_EPERM,
     KAGZUVIS_EPIPE,
     KAGZUVIS_ESPIPE,
@@ -64,7 +66,15 @@ enum kagzuvis_error {
     KAGZUVIS_SYSTEM
 };
 
-enum kagzuvis_kind { KAGZUVIS_FILE, KAGZUVIS_DIRECTORY, KAGZUVIS_PIPE };
+enum kagzuvis_kind {
+    KAGZUVIS_FILE,
+    KAGZUVIS_DIRECTORY,
+    KAGZUVIS_PIPE,
+    /* A symbolic link. */
+    KAGZUVIS_LINK,
+    KAGZUVIS_FIFO,
+    KAGZUVIS_SOCKET
+};
 
 /* How a file is opened: a sum of these. */
 enum {
@@ -90,14 +100,22 @@ enum kagzuvis_aspect {
     KAGZUVIS_ENDS,
     KAGZUVIS_OFFSET,
     KAGZUVIS_FRONT,
-    KAGZUVIS_BACK
+    KAGZUVIS_BACK,
+    KAGZUVIS_TARGET,
+    KAGZUVIS_RIGHTS
 };
 
 struct kagzuvis_stat {
     enum kagzuvis_kind kind;
     uint32_t size;
     uint32_t links;
+    unsigned mode;        /* the bits that a chmod sets, as 0644 */
+    uint32_t user;
+    uint32_t group;
 };
+
+/* Of an owner, the user or the group that stays as it is. */
+#define KAGZUVIS_SAME UINT32_MAX
 
 /* The touch by which a process lost a conflict, and the process that won. */
 struct kagzuvis_cause {
@@ -116,7 +134,7 @@ struct kagzuvis_answer {
     const char *operation;         /* its word, as "mkdir", or NULL */
     uint32_t numbers[2];           /* the descriptor, count, offset or child; of a pipe both descriptors */
     struct kagzuvis_stat stat;
-    const char *bytes;             /* what was read, with a zero byte behind it */
+    const char *bytes;             /* what was read, or a target, with a zero byte behind it */
     size_t length;
     const char *const *names;      /* of a list, each with a zero byte behind it */
     size_t name_count;
@@ -185,6 +203,17 @@ int kagzuvis_mkdir(kagzuvis *kernel, unsigned process, const char *path);
 int kagzuvis_rmdir(kagzuvis *kernel, unsigned process, const char *path);
 /* Returns the names, one piece of memory for `free`, or NULL. */
 struct kagzuvis_names *kagzuvis_list(kagzuvis *kernel, unsigned process, const char *path);
+int kagzuvis_symlink(kagzuvis *kernel, unsigned process, const char *target, const char *path);
+/* Puts as much of the target as there is room for, with no zero byte behind it, and answers how much that was. */
+long kagzuvis_readlink(kagzuvis *kernel, unsigned process, const char *path, char *buffer, size_t room);
+int kagzuvis_lstat(kagzuvis *kernel, unsigned process, const char *path, struct kagzuvis_stat *stat);
+/* Makes a KAGZUVIS_FIFO or a KAGZUVIS_SOCKET. */
+int kagzuvis_mknod(kagzuvis *kernel, unsigned process, const char *path, enum kagzuvis_kind kind);
+/* A mode has twelve bits, as 0755. */
+int kagzuvis_chmod(kagzuvis *kernel, unsigned process, const char *path, unsigned mode);
+int kagzuvis_fchmod(kagzuvis *kernel, unsigned process, int fd, unsigned mode);
+int kagzuvis_chown(kagzuvis *kernel, unsigned process, const char *path, uint32_t user, uint32_t group);
+int kagzuvis_fchown(kagzuvis *kernel, unsigned process, int fd, uint32_t user, uint32_t group);
 int kagzuvis_dup(kagzuvis *kernel, unsigned process, int fd);
 int kagzuvis_dup2(kagzuvis *kernel, unsigned process, int old_fd, int new_fd);
 int kagzuvis_pipe(kagzuvis *kernel, unsigned process, int fds[2]);

@@ -12,7 +12,7 @@ enum form { DONE, NUMBER, BYTES, STAT, NAMES, PAIR, CHILD, BEGUN, COMMITTED, GIV
 
 enum operation {
     OPEN, CLOSE, READ, PREAD, WRITE, PWRITE, LSEEK, FTRUNCATE, TRUNCATE, STAT_PATH, FSTAT, LINK, UNLINK, RENAME, MKDIR, RMDIR,
-    LIST, DUP, DUP2, PIPE, FORK, EXIT, BEGIN, END, ABORT
+    LIST, SYMLINK, READLINK, LSTAT, MKNOD, CHMOD, FCHMOD, CHOWN, FCHOWN, DUP, DUP2, PIPE, FORK, EXIT, BEGIN, END, ABORT
 };
 
 /* The word of each operation, how many words stand behind it (a begin and an abort may have one), and its answer. */
@@ -24,18 +24,23 @@ static const struct {
     {"open", 2, NUMBER}, {"close", 1, DONE}, {"read", 2, BYTES}, {"pread", 3, BYTES}, {"write", 2, NUMBER},
     {"pwrite", 3, NUMBER}, {"lseek", 3, NUMBER}, {"ftruncate", 2, DONE}, {"truncate", 2, DONE}, {"stat", 1, STAT},
     {"fstat", 1, STAT}, {"link", 2, DONE}, {"unlink", 1, DONE}, {"rename", 2, DONE}, {"mkdir", 1, DONE}, {"rmdir", 1, DONE},
-    {"list", 1, NAMES}, {"dup", 1, NUMBER}, {"dup2", 2, NUMBER}, {"pipe", 0, PAIR}, {"fork", 0, CHILD}, {"exit", 0, DONE},
-    {"begin", 0, BEGUN}, {"end", 0, COMMITTED}, {"abort", 0, GIVEN_UP},
+    {"list", 1, NAMES}, {"symlink", 2, DONE}, {"readlink", 1, BYTES}, {"lstat", 1, STAT}, {"mknod", 2, DONE}, {"chmod", 2, DONE},
+    {"fchmod", 2, DONE}, {"chown", 3, DONE}, {"fchown", 3, DONE}, {"dup", 1, NUMBER}, {"dup2", 2, NUMBER}, {"pipe", 0, PAIR},
+    {"fork", 0, CHILD}, {"exit", 0, DONE}, {"begin", 0, BEGUN}, {"end", 0, COMMITTED}, {"abort", 0, GIVEN_UP},
 };
 
 static const char *const error_names[] = {
-    "OK", "EAGAIN", "EBADF", "EBUSY", "EEXIST", "EFBIG", "EINVAL", "EISDIR", "EMFILE", "ENAMETOOLONG", "ENOENT", "ENOTDIR",
-    "ENOTEMPTY", "ENOTSUP", "EPERM", "EPIPE", "ESPIPE", "InTransaction", "NotInTransaction", "HistoryFull", "NoMemory",
-    "NoProcess", "Busy", "Aborted", "BadLine", "BadAnswer", "StreamEnded", "Misused", "System",
+    "OK", "EAGAIN", "EBADF", "EBUSY", "EEXIST", "EFBIG", "EINVAL", "EISDIR", "ELOOP", "EMFILE", "ENAMETOOLONG", "ENOENT",
+    "ENOTDIR", "ENOTEMPTY", "ENOTSUP", "ENXIO", "EPERM", "EPIPE", "ESPIPE", "InTransaction", "NotInTransaction", "HistoryFull",
+    "NoMemory", "NoProcess", "Busy", "Aborted", "BadLine", "BadAnswer", "StreamEnded", "Misused", "System",
 };
 
-static const char *const aspect_names[] = {"entry", "names", "size", "block", "links", "ends", "offset", "front", "back"};
-static const char *const kind_names[] = {"file", "dir", "pipe"};
+static const char *const aspect_names[] = {
+    "entry", "names", "size", "block", "links", "ends", "offset", "front", "back", "target", "rights",
+};
+static const char *const kind_names[] = {"file", "dir", "pipe", "link", "fifo", "socket"};
+/* The mode of a new object of each kind. */
+static const unsigned first_modes[] = {0644, 0755, 0644, 0777, 0644, 0644};
 
 #define COUNT(table) (sizeof(table) / sizeof *(table))
 
@@ -236,6 +241,33 @@ static int read_bytes(struct words *words, struct kagzuvis_answer *answer)
     return 0;
 }
 
+/* A mode is one to four octal digits. */
+static int next_mode(struct words *words, unsigned *mode)
+{
+    struct word word;
+
+    if (next(words, &word) != 0 || word.end - word.start > 4)
+        return -1;
+    *mode = 0;
+    for (; word.start < word.end; word.start++) {
+        if (*word.start < '0' || *word.start > '7')
+            return -1;
+        *mode = *mode * 8 + (unsigned)(*word.start - '0');
+    }
+    return 0;
+}
+
+/* Takes the mode and the owner that stand behind a status where they are not those of a new object. */
+static int read_rights(struct words *words, struct kagzuvis_stat *stat)
+{
+    stat->mode = first_modes[stat->kind];
+    if (take_if(words, "mode") && next_mode(words, &stat->mode) != 0)
+        return -1;
+    if (take_if(words, "owner"))
+        return next_number(words, &stat->user) == 0 ? next_number(words, &stat->group) : -1;
+    return 0;
+}
+
 static int read_stat(struct words *words, struct kagzuvis_stat *stat)
 {
     struct word word;
@@ -244,7 +276,9 @@ static int read_stat(struct words *words, struct kagzuvis_stat *stat)
     if (kind < 0 || next_is(words, "size") != 0 || next_number(words, &stat->size) != 0)
         return -1;
     stat->kind = (enum kagzuvis_kind)kind;
-    return next_is(words, "links") == 0 ? next_number(words, &stat->links) : -1;
+    if (next_is(words, "links") != 0 || next_number(words, &stat->links) != 0)
+        return -1;
+    return read_rights(words, stat);
 }
 
 /* Makes room for one thing more in a table. It grows as they come, whatever number an answer claims. */

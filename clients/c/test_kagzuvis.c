@@ -127,6 +127,58 @@ static void test_calls_of_names(void)
     stop(kernel, 0);
 }
 
+static void test_links_fifos_and_sockets(void)
+{
+    kagzuvis *kernel = start("0");
+    struct kagzuvis_stat stat;
+    char target[8];
+
+    CHECK(kagzuvis_symlink(kernel, 1, "../a\xff ", "/l") == 0);
+    CHECK(kagzuvis_readlink(kernel, 1, "/l", target, sizeof target) == 6 && memcmp(target, "../a\xff ", 6) == 0);
+    CHECK(kagzuvis_readlink(kernel, 1, "/l", target, 2) == 2 && kagzuvis_last(kernel)->length == 6);
+    CHECK(kagzuvis_lstat(kernel, 1, "/l", &stat) == 0);
+    CHECK(stat.kind == KAGZUVIS_LINK && stat.size == 6 && stat.links == 1);
+    CHECK(kagzuvis_mknod(kernel, 1, "/f", KAGZUVIS_FIFO) == 0 && kagzuvis_mknod(kernel, 1, "/s", KAGZUVIS_SOCKET) == 0);
+    CHECK(kagzuvis_stat(kernel, 1, "/f", &stat) == 0 && stat.kind == KAGZUVIS_FIFO && stat.links == 1);
+    CHECK(kagzuvis_lstat(kernel, 1, "/s", &stat) == 0 && stat.kind == KAGZUVIS_SOCKET);
+    FAILS(kernel, "ELOOP", kagzuvis_stat(kernel, 1, "/l", &stat));
+    FAILS(kernel, "ENXIO", kagzuvis_open(kernel, 1, "/f", KAGZUVIS_RDONLY));
+    FAILS(kernel, "EINVAL", kagzuvis_readlink(kernel, 1, "/f", target, sizeof target));
+    FAILS(kernel, "ENOENT", kagzuvis_symlink(kernel, 1, "", "/k"));
+    FAILS(kernel, "Misused", kagzuvis_mknod(kernel, 1, "/k", KAGZUVIS_PIPE));
+    stop(kernel, 0);
+}
+
+static int is_of(const struct kagzuvis_stat *stat, unsigned mode, uint32_t user, uint32_t group)
+{
+    return stat->mode == mode && stat->user == user && stat->group == group;
+}
+
+static void test_modes_and_owners(void)
+{
+    kagzuvis *kernel = start("0");
+    struct kagzuvis_stat stat;
+
+    CHECK(kagzuvis_open(kernel, 1, "/a", KAGZUVIS_WRONLY | KAGZUVIS_CREAT) == 0);
+    CHECK(kagzuvis_symlink(kernel, 1, "a", "/l") == 0);
+    CHECK(kagzuvis_stat(kernel, 1, "/a", &stat) == 0 && is_of(&stat, 0644, 0, 0));
+    CHECK(kagzuvis_chmod(kernel, 1, "/a", 07777) == 0);
+    CHECK(kagzuvis_fstat(kernel, 1, 0, &stat) == 0 && is_of(&stat, 07777, 0, 0));
+    CHECK(kagzuvis_chown(kernel, 1, "/a", 1, UINT32_MAX - 1) == 0);
+    CHECK(kagzuvis_stat(kernel, 1, "/a", &stat) == 0 && is_of(&stat, 01777, 1, UINT32_MAX - 1));
+    CHECK(kagzuvis_fchown(kernel, 1, 0, KAGZUVIS_SAME, 2) == 0 && kagzuvis_fchmod(kernel, 1, 0, 0) == 0);
+    CHECK(kagzuvis_stat(kernel, 1, "/a", &stat) == 0 && is_of(&stat, 0, 1, 2));
+    CHECK(kagzuvis_chown(kernel, 1, "/l", 3, KAGZUVIS_SAME) == 0);
+    CHECK(kagzuvis_lstat(kernel, 1, "/l", &stat) == 0 && stat.size == 1 && is_of(&stat, 0777, 3, 0));
+    CHECK(kagzuvis_stat(kernel, 1, "/", &stat) == 0 && is_of(&stat, 0755, 0, 0));
+    FAILS(kernel, "ELOOP", kagzuvis_chmod(kernel, 1, "/l", 0700));
+    FAILS(kernel, "ENOENT", kagzuvis_chown(kernel, 1, "/b", 1, 2));
+    FAILS(kernel, "EBADF", kagzuvis_fchmod(kernel, 1, 9, 0700));
+    FAILS(kernel, "EBADF", kagzuvis_fchown(kernel, 1, -1, 1, 2));
+    FAILS(kernel, "Misused", kagzuvis_chmod(kernel, 1, "/a", 010000));
+    stop(kernel, 0);
+}
+
 static void test_pipes_and_processes(void)
 {
     kagzuvis *kernel = start("0");
@@ -420,7 +472,11 @@ static const char *const hostile[] = {
     "1 P1 mkdir /a /b -> ok", "1 P1 mkdir  -> ok", "1 1 mkdir /a -> ok", "x P1 mkdir /a -> ok", "1 P1 frob /a -> ok", "1 P1 read 0 9 -> 2 a",
     "1 P1 read 0 9 -> 1", "1 P1 read 0 9 -> 1 \\", "1 P1 read 0 9 -> 1 \\x4", "1 P1 read 0 9 -> 1 \\xAA",
     "1 P1 open /a RDONLY -> -1", "1 P1 open /a RDONLY -> 4294967296", "1 P1 stat /a -> file size 1 links",
-    "1 P1 stat /a -> link size 1 links 1", "1 P1 list / -> names 2 a", "1 P1 list / -> names 4294967295 a",
+    "1 P1 stat /a -> file size 1 links 1 mode", "1 P1 stat /a -> file size 1 links 1 mode 8",
+    "1 P1 stat /a -> file size 1 links 1 mode 10000", "1 P1 stat /a -> file size 1 links 1 owner 1",
+    "1 P1 stat /a -> file size 1 links 1 owner 1 2 mode 7", "1 P1 chmod /a -> ok",
+    "1 P1 stat /a -> door size 1 links 1", "1 P1 readlink /a -> ok", "1 P1 symlink a -> ok", "1 P1 list / -> names 2 a",
+    "1 P1 list / -> names 4294967295 a",
     "1 P1 list / -> names 99999999999999999999 a", "1 P1 list / -> names 1 a b", "1 P1 list / -> names 1 \\x00",
     "1 P1 pipe -> 0", "1 P1 begin RESTART RESTART -> begun", "1 P1 end -> aborted", "1 P1 end -> aborted entry",
     "1 P1 end -> aborted entry a read by 2", "1 P1 end -> aborted block a read by P2", "1 P1 end -> busy names seen by P2",
@@ -487,6 +543,8 @@ int main(int argc, char **argv)
     program = argv[1];
     test_calls_of_a_file();
     test_calls_of_names();
+    test_links_fifos_and_sockets();
+    test_modes_and_owners();
     test_pipes_and_processes();
     test_refusals();
     test_odd_bytes();

@@ -6,9 +6,10 @@
             first.mkdir("/a")
         print(second.list("/"))
 
-A path is a str (as UTF-8), bytes or os.PathLike; what is written is bytes; names and what is read come as bytes. A call that
-is not answered as it was asked raises an Error: Refused with the refusal's name, Aborted, Busy, and others below. `last` of a
-process has the whole Answer to its last call, with the processes that the call doomed; an Error has its own as `answer`.
+A path, or the target of a link, is a str (as UTF-8), bytes or os.PathLike; what is written is bytes; names, targets and what is
+read come as bytes. A call that is not answered as it was asked raises an Error: Refused with the refusal's name, Aborted, Busy,
+and others below. `last` of a process has the whole Answer to its last call, with the processes that the call doomed; an Error
+has its own as `answer`.
 
 Threads may share a kernel, each with processes of its own: a lock goes around each call.
 """
@@ -33,18 +34,30 @@ AHEAD = 65536
 
 # Why an operation is refused: by the names of POSIX, or by the kernel's own.
 REFUSALS = frozenset(
-    b"EAGAIN EBADF EBUSY EEXIST EFBIG EINVAL EISDIR EMFILE ENAMETOOLONG ENOENT ENOTDIR ENOTEMPTY ENOTSUP EPERM EPIPE ESPIPE "
-    b"InTransaction NotInTransaction HistoryFull NoMemory".split()
+    b"EAGAIN EBADF EBUSY EEXIST EFBIG EINVAL EISDIR ELOOP EMFILE ENAMETOOLONG ENOENT ENOTDIR ENOTEMPTY ENOTSUP ENXIO EPERM "
+    b"EPIPE ESPIPE InTransaction NotInTransaction HistoryFull NoMemory".split()
 )
-ASPECTS = frozenset(b"entry names size block links ends offset front back".split())
+ASPECTS = frozenset(b"entry names size block links ends offset front back target rights".split())
 
 # The answer to an operation: its place in the history, counted from 1; the process; the operation's word; what it comes to, or
 # else the Error; and the numbers of the processes that it doomed. That to a line that is no operation has only the Error.
 Answer = collections.namedtuple("Answer", "place pid operation value error dooms")
-# What stat and fstat tell; the kind is "file", "dir" or "pipe".
-Stat = collections.namedtuple("Stat", "kind size links")
+# What an object is. A mknod makes one of the last two.
+KINDS = ("file", "dir", "pipe", "link", "fifo", "socket")
 # The touch by which a process lost a conflict, and the process that won. An "entry" has a name, a "block" its number.
 Cause = collections.namedtuple("Cause", "aspect name block write other")
+
+
+class Stat(collections.namedtuple("Stat", "kind size links mode user group")):
+    """What stat, lstat and fstat tell; the kind is one of KINDS, and the mode has the bits that a chmod sets. Where no mode, user
+    and group are given they are those of a new object of the kind."""
+
+    __slots__ = ()
+
+    def __new__(cls, kind, size, links, mode=None, user=0, group=0):
+        if mode is None:
+            mode = {"dir": 0o755, "link": 0o777}.get(kind, 0o644)
+        return super().__new__(cls, kind, size, links, mode, user, group)
 
 
 class Error(Exception):
@@ -180,6 +193,21 @@ def _flags(flags):
     return b",".join(names) or b"-"
 
 
+def _special(kind):
+    if kind not in KINDS[-2:]:
+        raise ValueError(f"{kind} is nothing that a mknod makes")
+    return kind.encode()
+
+
+def _mode(bits):
+    _number(bits, 0, 0o7777)
+    return b"%o" % bits
+
+
+def _owner(number):
+    return b"-" if number == -1 else _number(number)
+
+
 def _begin_words(restart, abort_unsupported):
     names = [name for name, wanted in ((b"RESTART", restart), (b"ABORT_UNSUPPORTED", abort_unsupported)) if wanted]
     return [b",".join(names)] if names else []
@@ -193,6 +221,12 @@ def _decimal(word, most=2**32 - 1):
     if not word.isdigit() or int(word) > most:
         raise ValueError("no number")
     return int(word)
+
+
+def _octal(word):
+    if not 1 <= len(word) <= 4 or word.translate(None, b"01234567"):
+        raise ValueError("no mode")
+    return int(word, 8)
 
 
 def _process(word):
@@ -223,10 +257,15 @@ def _read_bytes(words):
 
 def _read_stat(words):
     kind, size, length, links, count = words[:5]
-    if kind not in (b"file", b"dir", b"pipe"):
+    if kind.decode("ascii", "replace") not in KINDS:
         raise ValueError("no kind")
     _exactly((size, links), b"size", b"links")
-    return Stat(kind.decode(), _decimal(length), _decimal(count)), 5
+    mode, user, group, end = None, 0, 0, 5
+    if words[end : end + 1] == [b"mode"]:
+        mode, end = _octal(words[end + 1]), end + 2
+    if words[end : end + 1] == [b"owner"]:
+        user, group, end = _decimal(words[end + 1]), _decimal(words[end + 2]), end + 3
+    return Stat(kind.decode(), _decimal(length), _decimal(count), mode, user, group), end
 
 
 def _read_names(words):
@@ -289,10 +328,11 @@ def _read_dooms(words):
 
 # How an operation's answer is read, and how many words stand behind each operation's. (A begin and an abort may have one more.)
 _READERS = (
-    (_reader_of(b"ok"), b"close 1 ftruncate 2 truncate 2 link 2 unlink 1 rename 2 mkdir 1 rmdir 1 exit 0"),
+    (_reader_of(b"ok"), b"close 1 ftruncate 2 truncate 2 link 2 unlink 1 rename 2 mkdir 1 rmdir 1 symlink 2 mknod 2 exit 0"),
+    (_reader_of(b"ok"), b"chmod 2 fchmod 2 chown 3 fchown 3"),
     (lambda words: (_decimal(words[0]), 1), b"open 2 write 2 pwrite 3 lseek 3 dup 1 dup2 2"),
-    (_read_bytes, b"read 2 pread 3"),
-    (_read_stat, b"stat 1 fstat 1"),
+    (_read_bytes, b"read 2 pread 3 readlink 1"),
+    (_read_stat, b"stat 1 fstat 1 lstat 1"),
     (_read_names, b"list 1"),
     (lambda words: ((_decimal(words[0]), _decimal(words[1])), 2), b"pipe 0"),
     (_read_child, b"fork 0"),
@@ -592,6 +632,16 @@ class _Calls:
     def mkdir(self, path): return self._ask(b"mkdir", _path(path))
     def rmdir(self, path): return self._ask(b"rmdir", _path(path))
     def list(self, path): return self._ask(b"list", _path(path))
+    def symlink(self, target, path): return self._ask(b"symlink", _path(target), _path(path))
+    def readlink(self, path): return self._ask(b"readlink", _path(path))
+    def lstat(self, path): return self._ask(b"lstat", _path(path))
+    # A mknod makes a "fifo" or a "socket".
+    def mknod(self, path, kind): return self._ask(b"mknod", _path(path), _special(kind))
+    # A mode is a number of twelve bits, as 0o755. Of an owner -1 stays as it is.
+    def chmod(self, path, mode): return self._ask(b"chmod", _path(path), _mode(mode))
+    def fchmod(self, fd, mode): return self._ask(b"fchmod", _number(fd), _mode(mode))
+    def chown(self, path, user, group): return self._ask(b"chown", _path(path), _owner(user), _owner(group))
+    def fchown(self, fd, user, group): return self._ask(b"fchown", _number(fd), _owner(user), _owner(group))
     def dup(self, fd): return self._ask(b"dup", _number(fd))
     def dup2(self, old, new): return self._ask(b"dup2", _number(old), _number(new))
     # A pipe answers the descriptor that reads, and the one that writes; a fork the new Process.

@@ -69,6 +69,35 @@ class Calls(TestCase):
         self.assertIsNone(process.rmdir("/d"))
         self.assertEqual(process.stat("/"), Stat("dir", 0, 1))
 
+    def test_each_call_of_links_fifos_and_sockets(self):
+        process = self.kernel().processes[0]
+        self.assertIsNone(process.symlink(b"../a\xff ", "/l"))
+        self.assertEqual(process.readlink("/l"), b"../a\xff ")
+        self.assertEqual(process.lstat("/l"), Stat("link", 6, 1))
+        self.assertIsNone(process.link("/l", "/k"))
+        self.assertEqual(process.lstat("/k"), Stat("link", 6, 2))
+        self.assertIsNone(process.mknod("/f", "fifo"))
+        self.assertIsNone(process.mknod("/s", "socket"))
+        self.assertEqual(process.stat("/f"), Stat("fifo", 0, 1))
+        self.assertEqual(process.lstat("/s"), Stat("socket", 0, 1))
+        self.assertEqual(process.list("/"), [b"f", b"k", b"l", b"s"])
+
+    def test_each_call_of_modes_and_owners(self):
+        process = self.kernel().processes[0]
+        process.open("/a", WRONLY | CREAT)
+        process.symlink("a", "/l")
+        self.assertEqual(process.stat("/a"), Stat("file", 0, 1, 0o644, 0, 0))
+        self.assertIsNone(process.chmod("/a", 0o7777))
+        self.assertEqual(process.fstat(0), Stat("file", 0, 1, 0o7777))
+        self.assertIsNone(process.chown("/a", 1, 2**32 - 1))
+        self.assertEqual(process.stat("/a"), Stat("file", 0, 1, 0o1777, 1, 2**32 - 1))
+        self.assertIsNone(process.fchown(0, -1, 2))
+        self.assertIsNone(process.fchmod(0, 0))
+        self.assertEqual(process.stat("/a"), Stat("file", 0, 1, 0, 1, 2))
+        self.assertIsNone(process.chown("/l", 3, -1))
+        self.assertEqual(process.lstat("/l"), Stat("link", 1, 1, 0o777, 3, 0))
+        self.assertEqual(process.stat("/"), Stat("dir", 0, 1, 0o755))
+
     def test_pipes_and_processes(self):
         parent = self.kernel().processes[0]
         self.assertEqual(parent.pipe(), (0, 1))
@@ -106,6 +135,8 @@ class Calls(TestCase):
         process.mkdir("/d")
         process.open("/d/a", RDONLY | CREAT)
         process.pipe()
+        process.symlink("d", "/l")
+        process.mknod("/f", "fifo")
         for name, call, *given in (
             ("EBADF", process.close, 9),
             ("EBADF", process.write, 0, b"a"),
@@ -121,6 +152,14 @@ class Calls(TestCase):
             ("EBUSY", process.rmdir, "/"),
             ("ESPIPE", process.lseek, 1, 0),
             ("EFBIG", process.truncate, "/d/a", 2**32 - 1),
+            ("ELOOP", process.stat, "/l"),
+            ("ENXIO", process.open, "/f", RDONLY),
+            ("EINVAL", process.readlink, "/f"),
+            ("ENOENT", process.symlink, "", "/k"),
+            ("ELOOP", process.chmod, "/l", 0o700),
+            ("ENOENT", process.chown, "/a", 1, 2),
+            ("EBADF", process.fchmod, 9, 0o700),
+            ("EBADF", process.fchown, 9, 1, 2),
             ("NotInTransaction", process.end),
             ("NotInTransaction", process.abort),
         ):
@@ -138,6 +177,9 @@ class Calls(TestCase):
             (process.open, "/a", 64),
             (process.lseek, 0, 2**63),
             (process.fill, 0, 1, 256),
+            (process.mknod, "/f", "pipe"),
+            (process.chmod, "/a", 0o10000),
+            (process.fchown, 0, -2, 0),
             (kernel.send, b""),
             (kernel.send, b"# 1 end"),
             (kernel.send, b"1 end\n1 end"),
@@ -502,7 +544,15 @@ class HostileAnswers(TestCase):
         b"1 P1 open /a RDONLY -> -1",
         b"1 P1 open /a RDONLY -> 4294967296",
         b"1 P1 stat /a -> file size 1 links",
-        b"1 P1 stat /a -> link size 1 links 1",
+        b"1 P1 stat /a -> door size 1 links 1",
+        b"1 P1 stat /a -> file size 1 links 1 mode",
+        b"1 P1 stat /a -> file size 1 links 1 mode 8",
+        b"1 P1 stat /a -> file size 1 links 1 mode 10000",
+        b"1 P1 stat /a -> file size 1 links 1 owner 1",
+        b"1 P1 stat /a -> file size 1 links 1 owner 1 2 mode 7",
+        b"1 P1 chmod /a -> ok",
+        b"1 P1 readlink /a -> ok",
+        b"1 P1 symlink a -> ok",
         b"1 P1 list / -> names 2 a",
         b"1 P1 list / -> names 99999999999999999999 a",
         b"1 P1 list / -> names 1 a b",

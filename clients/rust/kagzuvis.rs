@@ -46,8 +46,8 @@ macro_rules! refusals {
 }
 
 refusals! {
-    EAGAIN EBADF EBUSY EEXIST EFBIG EINVAL EISDIR EMFILE ENAMETOOLONG ENOENT ENOTDIR ENOTEMPTY ENOTSUP EPERM EPIPE ESPIPE
-    InTransaction NotInTransaction HistoryFull NoMemory NoProcess
+    EAGAIN EBADF EBUSY EEXIST EFBIG EINVAL EISDIR ELOOP EMFILE ENAMETOOLONG ENOENT ENOTDIR ENOTEMPTY ENOTSUP ENXIO EPERM
+    EPIPE ESPIPE InTransaction NotInTransaction HistoryFull NoMemory NoProcess
 }
 
 /// A part of the state that a conflict is about.
@@ -62,6 +62,8 @@ pub enum Aspect {
     Offset,
     Front,
     Back,
+    Target,
+    Rights,
 }
 
 /// The touch by which a process lost a conflict, and the process that won.
@@ -109,14 +111,28 @@ pub enum Kind {
     File,
     Dir,
     Pipe,
+    Link,
+    Fifo,
+    Socket,
 }
 
-/// What stat and fstat tell.
+/// What mknod makes.
+#[derive(Clone, Copy, Debug, PartialEq, Eq)]
+pub enum Special {
+    Fifo,
+    Socket,
+}
+
+/// What stat, lstat and fstat tell.
 #[derive(Clone, Copy, Debug, PartialEq, Eq)]
 pub struct Stat {
     pub kind: Kind,
     pub size: u32,
     pub links: u32,
+    /// The twelve bits that chmod sets.
+    pub mode: u16,
+    pub user: u32,
+    pub group: u32,
 }
 
 /// What an operation is answered.
@@ -215,6 +231,11 @@ fn flags_text(flags: u8) -> String {
     if names.is_empty() { "-".to_string() } else { names.join(",") }
 }
 
+fn owner_text(user: Option<u32>, group: Option<u32>) -> String {
+    let text = |number: Option<u32>| number.map_or("-".to_string(), |number| number.to_string());
+    format!("{} {}", text(user), text(group))
+}
+
 // ---- Answers
 
 // The words of a line that are still to come.
@@ -249,6 +270,12 @@ impl<'a> Words<'a> {
         u32::try_from(decimal(self.next()?)?).ok()
     }
 
+    // One to four octal digits.
+    fn mode(&mut self) -> Option<u16> {
+        let word = self.next().filter(|word| word.len() <= 4)?;
+        word.iter().try_fold(0, |mode, digit| matches!(*digit, b'0'..=b'7').then(|| mode * 8 + u16::from(*digit - b'0')))
+    }
+
     fn process(&mut self) -> Option<u32> {
         process_in(self.next()?)
     }
@@ -269,9 +296,10 @@ fn process_in(word: &[u8]) -> Option<u32> {
 fn arguments_of(operation: &[u8]) -> Option<usize> {
     match operation {
         b"pipe" | b"fork" | b"exit" | b"begin" | b"end" | b"abort" => Some(0),
-        b"close" | b"stat" | b"fstat" | b"unlink" | b"mkdir" | b"rmdir" | b"list" | b"dup" => Some(1),
-        b"open" | b"read" | b"write" | b"ftruncate" | b"truncate" | b"link" | b"rename" | b"dup2" => Some(2),
-        b"pread" | b"pwrite" | b"lseek" => Some(3),
+        b"close" | b"stat" | b"fstat" | b"unlink" | b"mkdir" | b"rmdir" | b"list" | b"readlink" | b"lstat" | b"dup" => Some(1),
+        b"open" | b"read" | b"write" | b"ftruncate" | b"truncate" | b"link" | b"rename" | b"symlink" | b"mknod" | b"dup2" => Some(2),
+        b"chmod" | b"fchmod" => Some(2),
+        b"pread" | b"pwrite" | b"lseek" | b"chown" | b"fchown" => Some(3),
         _ => None,
     }
 }
@@ -286,12 +314,24 @@ fn read_stat(words: &mut Words<'_>) -> Option<Stat> {
         b"file" => Kind::File,
         b"dir" => Kind::Dir,
         b"pipe" => Kind::Pipe,
+        b"link" => Kind::Link,
+        b"fifo" => Kind::Fifo,
+        b"socket" => Kind::Socket,
         _ => return None,
     };
     words.expect("size")?;
     let size = words.number()?;
     words.expect("links")?;
-    Some(Stat { kind, size, links: words.number()? })
+    let links = words.number()?;
+    // What a new object of the kind has is not told.
+    let first = match kind {
+        Kind::Dir => 0o755,
+        Kind::Link => 0o777,
+        _ => 0o644,
+    };
+    let mode = if words.take_if("mode") { words.mode()? } else { first };
+    let (user, group) = if words.take_if("owner") { (words.number()?, words.number()?) } else { (0, 0) };
+    Some(Stat { kind, size, links, mode, user, group })
 }
 
 fn read_names(words: &mut Words<'_>) -> Option<Vec<Vec<u8>>> {
@@ -302,8 +342,8 @@ fn read_names(words: &mut Words<'_>) -> Option<Vec<Vec<u8>>> {
 fn read_value(words: &mut Words<'_>, operation: &[u8]) -> Option<Value> {
     match operation {
         b"open" | b"write" | b"pwrite" | b"lseek" | b"dup" | b"dup2" => words.number().map(Value::Number),
-        b"read" | b"pread" => read_bytes(words).map(Value::Bytes),
-        b"stat" | b"fstat" => read_stat(words).map(Value::Stat),
+        b"read" | b"pread" | b"readlink" => read_bytes(words).map(Value::Bytes),
+        b"stat" | b"fstat" | b"lstat" => read_stat(words).map(Value::Stat),
         b"list" => read_names(words).map(Value::Names),
         b"pipe" => Some(Value::Pair(words.number()?, words.number()?)),
         b"fork" => words.expect("child").and_then(|()| words.number()).map(Value::Number),
@@ -329,6 +369,8 @@ fn read_cause(words: &mut Words<'_>) -> Option<Cause> {
         b"offset" => Aspect::Offset,
         b"front" => Aspect::Front,
         b"back" => Aspect::Back,
+        b"target" => Aspect::Target,
+        b"rights" => Aspect::Rights,
         _ => return None,
     };
     let write = words.take_if("write");
@@ -742,6 +784,24 @@ impl<'k> Process<'k> {
     pub fn rmdir(&self, path: impl AsRef<[u8]>) -> Result<()> { self.done(format!("rmdir {}", spell(path))) }
     pub fn list(&self, path: impl AsRef<[u8]>) -> Result<Vec<Vec<u8>>> {
         given!(self.ask(&format!("list {}", spell(path))), Value::Names(names) => names)
+    }
+    pub fn symlink(&self, target: impl AsRef<[u8]>, path: impl AsRef<[u8]>) -> Result<()> {
+        self.done(format!("symlink {} {}", spell(target), spell(path)))
+    }
+    pub fn readlink(&self, path: impl AsRef<[u8]>) -> Result<Vec<u8>> { self.bytes_of(format!("readlink {}", spell(path))) }
+    pub fn lstat(&self, path: impl AsRef<[u8]>) -> Result<Stat> { self.stat_of(format!("lstat {}", spell(path))) }
+    pub fn mknod(&self, path: impl AsRef<[u8]>, special: Special) -> Result<()> {
+        self.done(format!("mknod {} {}", spell(path), ["fifo", "socket"][special as usize]))
+    }
+    /// A mode is below 0o10000; the kernel answers another one by a bad line.
+    pub fn chmod(&self, path: impl AsRef<[u8]>, mode: u16) -> Result<()> { self.done(format!("chmod {} {mode:o}", spell(path))) }
+    pub fn fchmod(&self, fd: u32, mode: u16) -> Result<()> { self.done(format!("fchmod {fd} {mode:o}")) }
+    /// Of an owner `None` stays as it is.
+    pub fn chown(&self, path: impl AsRef<[u8]>, user: Option<u32>, group: Option<u32>) -> Result<()> {
+        self.done(format!("chown {} {}", spell(path), owner_text(user, group)))
+    }
+    pub fn fchown(&self, fd: u32, user: Option<u32>, group: Option<u32>) -> Result<()> {
+        self.done(format!("fchown {fd} {}", owner_text(user, group)))
     }
     pub fn dup(&self, fd: u32) -> Result<u32> { self.number_of(format!("dup {fd}")) }
     pub fn dup2(&self, old: u32, new: u32) -> Result<u32> { self.number_of(format!("dup2 {old} {new}")) }

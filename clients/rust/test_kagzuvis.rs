@@ -5,7 +5,7 @@ mod kagzuvis;
 
 use kagzuvis::Error::{Aborted, BadAnswer, BadLine, Busy, GivenUp, Misused, Refused, StreamEnded};
 use kagzuvis::Refusal::*;
-use kagzuvis::{Aspect, Cause, End, Error, Kernel, Kind, Options, Process, Stat, Value, Whence};
+use kagzuvis::{Aspect, Cause, End, Error, Kernel, Kind, Options, Process, Special, Stat, Value, Whence};
 use kagzuvis::{ABORT_UNSUPPORTED, APPEND, CREAT, EXCL, LINE_LIMIT, RDONLY, RDWR, RESTART, WRONLY, parse, spell, unspell};
 use std::io;
 use std::panic::{AssertUnwindSafe, catch_unwind, resume_unwind};
@@ -17,6 +17,11 @@ struct Tests {
 
 fn refused<T>(name: kagzuvis::Refusal) -> kagzuvis::Result<T> {
     Err(Refused(name))
+}
+
+// What is told of an object with one name that belongs to nobody else.
+fn stat(kind: Kind, size: u32, mode: u16) -> Stat {
+    Stat { kind, size, links: 1, mode, user: 0, group: 0 }
 }
 
 impl Tests {
@@ -41,7 +46,7 @@ impl Tests {
         assert_eq!(process.pread(0, 9, 0)?, b"axydzzz\0\0");
         assert_eq!(process.read(0, 0)?, b"");
         process.ftruncate(0, 4)?;
-        assert_eq!(process.fstat(0), Ok(Stat { kind: Kind::File, size: 4, links: 1 }));
+        assert_eq!(process.fstat(0), Ok(stat(Kind::File, 4, 0o644)));
         process.truncate("/a", 5)?;
         assert_eq!(process.stat("/a")?.size, 5);
         assert_eq!(process.dup(0), Ok(1));
@@ -66,6 +71,47 @@ impl Tests {
         assert_eq!(process.list("/d")?, Vec::<Vec<u8>>::new());
         process.rmdir("/d")?;
         assert_eq!(process.stat("/")?.kind, Kind::Dir);
+        Ok(())
+    }
+
+    fn links_fifos_and_sockets(&self) -> kagzuvis::Result<()> {
+        let kernel = self.kernel(&[0]);
+        let process = kernel.process(1);
+        process.symlink(b"../a\xff ", "/l")?;
+        assert_eq!(process.readlink("/l")?, b"../a\xff ");
+        assert_eq!(process.lstat("/l"), Ok(stat(Kind::Link, 6, 0o777)));
+        process.mknod("/f", Special::Fifo)?;
+        process.mknod("/s", Special::Socket)?;
+        assert_eq!(process.stat("/f")?.kind, Kind::Fifo);
+        assert_eq!(process.lstat("/s"), Ok(stat(Kind::Socket, 0, 0o644)));
+        assert_eq!(process.stat("/l"), refused(ELOOP));
+        assert_eq!(process.open("/f", RDONLY), refused(ENXIO));
+        assert_eq!(process.readlink("/f"), refused(EINVAL));
+        assert_eq!(process.symlink("", "/k"), refused(ENOENT));
+        Ok(())
+    }
+
+    fn modes_and_owners(&self) -> kagzuvis::Result<()> {
+        let kernel = self.kernel(&[0]);
+        let process = kernel.process(1);
+        process.open("/a", WRONLY | CREAT)?;
+        process.symlink("a", "/l")?;
+        assert_eq!(process.stat("/a"), Ok(stat(Kind::File, 0, 0o644)));
+        process.chmod("/a", 0o7777)?;
+        assert_eq!(process.fstat(0), Ok(stat(Kind::File, 0, 0o7777)));
+        process.chown("/a", Some(1), Some(u32::MAX))?;
+        assert_eq!(process.stat("/a"), Ok(Stat { user: 1, group: u32::MAX, ..stat(Kind::File, 0, 0o1777) }));
+        process.fchown(0, None, Some(2))?;
+        process.fchmod(0, 0)?;
+        assert_eq!(process.stat("/a"), Ok(Stat { user: 1, group: 2, ..stat(Kind::File, 0, 0) }));
+        process.chown("/l", Some(3), None)?;
+        assert_eq!(process.lstat("/l"), Ok(Stat { user: 3, ..stat(Kind::Link, 1, 0o777) }));
+        assert_eq!(process.stat("/"), Ok(stat(Kind::Dir, 0, 0o755)));
+        assert_eq!(process.chmod("/l", 0o700), refused(ELOOP));
+        assert_eq!(process.chown("/b", Some(1), None), refused(ENOENT));
+        assert_eq!(process.fchmod(9, 0o700), refused(EBADF));
+        assert_eq!(process.fchown(9, None, None), refused(EBADF));
+        assert!(matches!(process.chmod("/a", 0o10000), Err(BadLine(_))));
         Ok(())
     }
 
@@ -316,13 +362,17 @@ fn add(process: &Process<'_>, other: Process<'_>, tries: u32, work: Work) -> kag
     if work.gives_up { Err(Error::GivenUp) } else { Ok(number) }
 }
 
-const HOSTILE: [&str; 41] = [
+const HOSTILE: [&str; 49] = [
     "", " ", "?", "1", "1 P1", "1 P1 mkdir", "1 P1 mkdir /a", "1 P1 mkdir /a ->", "1 P1 mkdir /a -> ", "1 P1 mkdir /a -> okay",
     "1 P1 mkdir /a -> ok ", "1 P1 mkdir /a -> ok dooms", "1 P1 mkdir /a -> ok dooms P", "1 P1 mkdir /a -> ok dooms P2,",
     "1 P1 mkdir /a /b -> ok", "1 P1 mkdir  -> ok", "1 1 mkdir /a -> ok", "x P1 mkdir /a -> ok", "1 P1 frob /a -> ok", "1 P1 read 0 9 -> 2 a",
     "1 P1 read 0 9 -> 1", "1 P1 read 0 9 -> 1 \\", "1 P1 read 0 9 -> 1 \\x4", "1 P1 read 0 9 -> 1 \\xAA",
     "1 P1 open /a RDONLY -> -1", "1 P1 open /a RDONLY -> 4294967296", "1 P1 stat /a -> file size 1 links",
-    "1 P1 stat /a -> link size 1 links 1", "1 P1 list / -> names 2 a", "1 P1 list / -> names 4294967295 a",
+    "1 P1 stat /a -> file size 1 links 1 mode", "1 P1 stat /a -> file size 1 links 1 mode 8",
+    "1 P1 stat /a -> file size 1 links 1 mode 10000", "1 P1 stat /a -> file size 1 links 1 owner 1",
+    "1 P1 stat /a -> file size 1 links 1 owner 1 2 mode 7", "1 P1 chmod /a -> ok",
+    "1 P1 stat /a -> door size 1 links 1", "1 P1 readlink /a -> ok", "1 P1 symlink a -> ok", "1 P1 list / -> names 2 a",
+    "1 P1 list / -> names 4294967295 a",
     "1 P1 list / -> names 99999999999999999999 a", "1 P1 list / -> names 1 a b", "1 P1 pipe -> 0",
     "1 P1 begin RESTART RESTART -> begun", "1 P1 end -> aborted", "1 P1 end -> aborted entry",
     "1 P1 end -> aborted entry a read by 2", "1 P1 end -> aborted block a read by P2", "1 P1 end -> busy names seen by P2",
@@ -335,6 +385,8 @@ fn main() {
     let all = [
         Tests::calls_of_a_file,
         Tests::calls_of_names,
+        Tests::links_fifos_and_sockets,
+        Tests::modes_and_owners,
         Tests::pipes_and_processes,
         Tests::refusals,
         Tests::odd_bytes,

@@ -6,6 +6,9 @@ use std::alloc::AllocError;
 /// The path of eight names.
 pub(crate) static DEEP: &str = "/p/p/p/p/p/p/p/p";
 
+/// The target of each symbolic link.
+pub(crate) static TARGET: &str = "../some/where";
+
 // How many numbers names have.
 const NUMBERS: u64 = 1_048_576;
 

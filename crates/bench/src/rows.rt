@@ -14,7 +14,7 @@ struct Row {
 }
 
 // The rows of a directory with 1,000 names, in the order in which they are done.
-static ROWS: [Row; 11] = [
+static ROWS: [Row; 19] = [
     Row {
         name: "mkdir of 1000 names",
         work: Work::Mkdir,
@@ -56,6 +56,16 @@ static ROWS: [Row; 11] = [
         count: 1000,
     },
     Row {
+        name: "chmod of one file of 1000",
+        work: Work::Chmod,
+        count: 1000,
+    },
+    Row {
+        name: "chown of one file of 1000",
+        work: Work::Chown,
+        count: 1000,
+    },
+    Row {
         name: "rename",
         work: Work::Rename,
         count: 1000,
@@ -63,6 +73,36 @@ static ROWS: [Row; 11] = [
     Row {
         name: "unlink",
         work: Work::Unlink,
+        count: 1000,
+    },
+    Row {
+        name: "symlink of 1000 names",
+        work: Work::Symlink,
+        count: 1000,
+    },
+    Row {
+        name: "readlink",
+        work: Work::Readlink,
+        count: 1000,
+    },
+    Row {
+        name: "lstat of a symbolic link",
+        work: Work::Lstat,
+        count: 1000,
+    },
+    Row {
+        name: "unlink of a symbolic link",
+        work: Work::UnlinkFixed,
+        count: 1000,
+    },
+    Row {
+        name: "mknod of 1000 FIFOs",
+        work: Work::Mknod,
+        count: 1000,
+    },
+    Row {
+        name: "unlink of a FIFO",
+        work: Work::UnlinkFixed,
         count: 1000,
     },
     Row {

@@ -1,9 +1,9 @@
 // What the rows measure: one or a few calls with the name of a number.
-use crate::paths::{DEEP, path, scattered, shuffled};
+use crate::paths::{DEEP, TARGET, path, scattered, shuffled};
 use crate::steps::{child, step, step_refused};
 use anyhow::Result;
 use heap::Heap;
-use ids::{Bytes, Call, Fd, Op, OpenFlags};
+use ids::{Bytes, Call, Fd, Kind, NewOwner, Op, OpenFlags, Rights, Special};
 use machine::Machine;
 
 /// The work of a row.
@@ -31,10 +31,24 @@ pub(crate) enum Work {
     Pread,
     /// Cuts a file of 64 bytes to 32, by its path.
     Truncate,
+    /// Sets a file's permissions, by its path.
+    Chmod,
+    /// Sets its owner.
+    Chown,
     /// Gives a file another name.
     Rename,
     /// Takes a file's name away.
     Unlink,
+    /// Makes a symbolic link.
+    Symlink,
+    /// Reads its target.
+    Readlink,
+    /// Looks at it.
+    Lstat,
+    /// Makes a FIFO.
+    Mknod,
+    /// Takes the name of a symbolic link or of a FIFO away.
+    UnlinkFixed,
     /// Writes 64 bytes to a pipe and reads them again: two calls.
     Pipe,
     /// Makes a child, which exits: two calls.
@@ -95,6 +109,32 @@ fn rename<K: Machine>(kernel: &mut K, heap: Heap, number: u64) -> Result<()> {
     call(kernel, Call::Rename(old, new))
 }
 
+// To those of a directory, so that something has to be kept.
+fn chmod<K: Machine>(kernel: &mut K, heap: Heap, number: u64) -> Result<()> {
+    let permissions = Rights::first(Some(Kind::Dir)).permissions;
+    call(kernel, Call::Chmod(path(heap, b'f', number)?, permissions))
+}
+
+fn chown<K: Machine>(kernel: &mut K, heap: Heap, number: u64) -> Result<()> {
+    let owner = NewOwner {
+        user: Some(1),
+        group: Some(2),
+    };
+    call(kernel, Call::Chown(path(heap, b'f', number)?, owner))
+}
+
+fn symlink<K: Machine>(kernel: &mut K, heap: Heap, number: u64) -> Result<()> {
+    let target = Bytes::copy(heap, TARGET.as_bytes())?;
+    call(kernel, Call::Symlink(target, path(heap, b'l', number)?))
+}
+
+fn mknod<K: Machine>(kernel: &mut K, heap: Heap, number: u64) -> Result<()> {
+    call(
+        kernel,
+        Call::Mknod(path(heap, b'l', number)?, Special::Fifo),
+    )
+}
+
 fn pass<K: Machine>(kernel: &mut K, heap: Heap) -> Result<()> {
     call(kernel, Call::Write(WRITER, Bytes::copy(heap, &[b'x'; 64])?))?;
     call(kernel, Call::Read(READER, 64))
@@ -119,8 +159,15 @@ fn do_work<K: Machine>(kernel: &mut K, heap: Heap, work: Work, number: u64) -> R
         Work::Pwrite => pwrite(kernel, heap, number),
         Work::Pread => call(kernel, Call::Pread(FILE, 64, offset_of(number))),
         Work::Truncate => call(kernel, Call::Truncate(path(heap, b'f', number)?, SHORTER)),
+        Work::Chmod => chmod(kernel, heap, number),
+        Work::Chown => chown(kernel, heap, number),
         Work::Rename => rename(kernel, heap, number),
         Work::Unlink => call(kernel, Call::Unlink(path(heap, b'g', number)?)),
+        Work::Symlink => symlink(kernel, heap, number),
+        Work::Readlink => call(kernel, Call::Readlink(path(heap, b'l', number)?)),
+        Work::Lstat => call(kernel, Call::Lstat(path(heap, b'l', number)?)),
+        Work::Mknod => mknod(kernel, heap, number),
+        Work::UnlinkFixed => call(kernel, Call::Unlink(path(heap, b'l', number)?)),
         Work::Pipe => pass(kernel, heap),
         Work::Fork => fork(kernel),
     }
@@ -129,7 +176,7 @@ fn do_work<K: Machine>(kernel: &mut K, heap: Heap, work: Work, number: u64) -> R
 // The number of the i-th name of so many: new names come in no order, and are met in another.
 fn number_of(work: Work, i: u64, count: u64) -> u64 {
     match work {
-        Work::Mkdir | Work::Create => scattered(i),
+        Work::Mkdir | Work::Create | Work::Symlink | Work::Mknod => scattered(i),
         _ => scattered(shuffled(i, count)),
     }
 }

@@ -2,7 +2,7 @@
 use Rattle.std.proofs.Common.{◌≡◌, ℕ, List, [], ◌∷◌, Option, Some, None, refl, ◌∙◌}
 use Rattle.model.specs.FiniteMap.{get}
 use Rattle.model.specs.State.{Kernel, Description}
-use Rattle.model.specs.Changes.{Edit, Make_directory, Make_file, Name_file, Unname_file, Unname_directory, Move, Put_bytes, Cut, Take, Append, Set_offset, Open_inode, Make_pipe, Share_slot, Clear_slot, New_process, End_process, set_offset, applied, all_applied, tidy}
+use Rattle.model.specs.Changes.{Edit, Make_directory, Make_file, Make_fixed, Name_file, Unname_file, Unname_directory, Move, Put_bytes, Cut, Take, Append, Set_offset, Set_rights, Open_inode, Make_pipe, Share_slot, Clear_slot, New_process, End_process, set_offset, applied, all_applied, tidy}
 use Rattle.model.specs.Entries.{Executed}
 use Rattle.model.specs.Steps.{edits}
 use Rattle.model.specs.Moments.{after_one, after_list, loose}
@@ -16,6 +16,7 @@ one_stays : (chosen : List ℕ) (e : Edit) (k : Kernel) → (applied chosen e k)
 unfolding applied
 one_stays chosen (Make_directory d x i) k = refl
 one_stays chosen (Make_file d x i) k = refl
+one_stays chosen (Make_fixed d x fixed i) k = refl
 one_stays chosen (Name_file d x n) k = refl
 one_stays chosen (Unname_file d x n) k = refl
 one_stays chosen (Unname_directory d x n) k = refl
@@ -25,6 +26,7 @@ one_stays chosen (Cut n before after) k = refl
 one_stays chosen (Take p count) k = refl
 one_stays chosen (Append p bytes) k = refl
 one_stays chosen (Set_offset d place) k = set_stays d place (get k.descriptions d) k
+one_stays chosen (Set_rights n rights) k = refl
 one_stays chosen (Open_inode i inode mode pid f) k = refl
 one_stays chosen (Make_pipe i pid f g) k = refl
 one_stays chosen (Share_slot pid f d pipes) k = refl

@@ -4,7 +4,7 @@ use Rattle.std.specs.List.{AllByRecursion}
 use Rattle.model.specs.State.{Kernel}
 use Rattle.model.specs.Aspects.{Aspect, Keeps, KeepsAll}
 use Rattle.model.specs.Plan.{Errno}
-use Rattle.model.specs.Changes.{Edit, news, marks, applied, all_applied, tidy}
+use Rattle.model.specs.Changes.{Edit, Make_directory, Make_file, Make_fixed, Name_file, Unname_file, Unname_directory, Move, Put_bytes, Cut, Take, Append, Set_offset, Set_rights, Open_inode, Make_pipe, Share_slot, Clear_slot, New_process, End_process, news, marks, applied, all_applied, tidy}
 use Rattle.model.specs.Calls.{Call, Done, own}
 use Rattle.model.specs.Plans.{Change}
 use Rattle.model.specs.Steps.{reads, outcome, edits, edits_of}
@@ -14,7 +14,7 @@ use Rattle.model.proofs.Laws.{all-append, depends_on_what_it_saw}
 use Rattle.call_laws.specs.Objects.{IsThere, LeavesAlone}
 use Rattle.call_laws.specs.WellFormed.{WellFormed}
 use Rattle.call_laws.specs.CallLaws.{CallLaws, IsReady, changed}
-use Rattle.call_laws.specs.Fits.{FitsAll, IsBy, IsAlive, OwnAlike}
+use Rattle.call_laws.specs.Fits.{FitsAll, IsBy, IsAlive, LinksOnly, LinksFirst, OfOneKind, OwnAlike}
 use Rattle.call_laws.proofs.Maps.{all-mapped}
 use Rattle.call_laws.proofs.law.Alike.{edit_keeps}
 use Rattle.call_laws.proofs.law.Marks.{edit_marks}
@@ -28,6 +28,7 @@ use Rattle.call_laws.proofs.law.Alive.{alive_stays, all_alive, alive_tidy}
 use Rattle.call_laws.proofs.law.Nowhere.{nowhere_stays, nowhere_alike}
 use Rattle.call_laws.proofs.calls.WillFit.{WillFit}
 use Rattle.call_laws.proofs.calls.Fits.{call_fits}
+use Rattle.call_laws.proofs.calls.Linking.{links_alike}
 use Rattle.call_laws.proofs.law.WellTidy.{well_tidy, nowhere_tidy}
 use Rattle.call_laws.proofs.law.TidyLater.{alike_tidied, tidied_alike, all_alike}
 use Rattle.call_laws.proofs.calls.Reads.{left_there, calls_see}
@@ -42,14 +43,15 @@ pub use Rattle.call_laws.proofs.Tidying.{either_of, get_tidy, held_by, named_in,
 pub use Rattle.call_laws.proofs.Trees.{directories_are_a_tree_lem}
 pub use Rattle.call_laws.proofs.calls.ContentsFit.{put_at, write_pipe}
 pub use Rattle.call_laws.proofs.calls.Rules.{after_bind, allowed, either_given, weaken, whatever}
-pub use Rattle.call_laws.proofs.edits.Contents.{HasBytes, has_bytes, no_names_file, no_names_pipe}
+pub use Rattle.call_laws.proofs.edits.Contents.{HasBytes, has_bytes, no_names_file, no_names_pipe, no_target_file, no_target_pipe}
 pub use Rattle.call_laws.proofs.edits.Ends.{end_count, ends-open_at, ends-set_process, ends-without_process, held, held-alike, held-insert, held-remove, without_process}
-pub use Rattle.call_laws.proofs.edits.InodeMarks.{keeps_on, keeps_self, not_counted, other_old, still_gives}
+pub use Rattle.call_laws.proofs.edits.InodeMarks.{keeps_on, keeps_self, linked_is_other, linked_named, not_counted, other_old, some_linked, still_gives}
 pub use Rattle.call_laws.proofs.edits.Names.{counted, has_names, links_named, links_unnamed, one}
 pub use Rattle.call_laws.proofs.edits.NamesAlike.{IsNew, is_new, kept_kind}
 pub use Rattle.call_laws.proofs.edits.NamesWell.{none_count, same_links}
 pub use Rattle.call_laws.proofs.edits.Offsets.{ends_unmoved, set_there, with_offset}
 pub use Rattle.call_laws.proofs.edits.Processes.{table_in}
+pub use Rattle.call_laws.proofs.edits.Rights.{unset}
 pub use Rattle.call_laws.proofs.edits.SlotsAlike.{free_after, pipe_at, unused_after, with_tables}
 pub use Rattle.call_laws.proofs.law.Alive.{alive_tidy}
 pub use Rattle.call_laws.proofs.law.There.{edit_grows}
@@ -82,14 +84,40 @@ pub record AlikeAfter (now later now' later' : Kernel) (pid : ℕ) : Type 0 wher
   pub kept : (a : Aspect) → Keeps now later a → Keeps now' later' a
   pub own : OwnAlike now' later' pid
 
-pub edits_keep : (chosen : List ℕ) (es : List Edit) (now later : Kernel) (pid : ℕ) (inside : Bool) → AllByRecursion (IsBy pid inside) es → OwnAlike now later pid → FitsAll chosen now es → FitsAll chosen later es → KeepsAll now later (flat_map marks es)
+-- edits that give no further name
+no_link : (P : ℕ → Type 0) (e : Edit) → LinksOnly (λ n. ⊥) e → LinksOnly P e
+no_link P (Name_file d x n) h = absurd h
+no_link P (Make_directory d x i) h = tt
+no_link P (Make_file d x i) h = tt
+no_link P (Make_fixed d x fixed i) h = tt
+no_link P (Unname_file d x n) h = tt
+no_link P (Unname_directory d x n) h = tt
+no_link P (Move d x e y n replaced) h = tt
+no_link P (Put_bytes n place bytes before) h = tt
+no_link P (Cut n before after) h = tt
+no_link P (Take p count) h = tt
+no_link P (Append p bytes) h = tt
+no_link P (Set_offset d place) h = tt
+no_link P (Set_rights n rights) h = tt
+no_link P (Open_inode i inode how q f) h = tt
+no_link P (Make_pipe i q f g) h = tt
+no_link P (Share_slot q f d pipes) h = tt
+no_link P (Clear_slot q f pipes) h = tt
+no_link P (New_process child parent pipes) h = tt
+no_link P (End_process q pipes) h = tt
+
+no_links : (P : ℕ → Type 0) (es : List Edit) → AllByRecursion (LinksOnly (λ n. ⊥)) es → LinksFirst P es
+no_links P [] h = tt
+no_links P (e ∷ es) h = (no_link P e h.0, h.1)
+
+pub edits_keep : (chosen : List ℕ) (es : List Edit) (now later : Kernel) (pid : ℕ) (inside : Bool) → AllByRecursion (IsBy pid inside) es → OwnAlike now later pid → FitsAll chosen now es → FitsAll chosen later es → LinksFirst (OfOneKind now later) es → KeepsAll now later (flat_map marks es)
     → AlikeAfter now later (all_applied chosen es now) (all_applied chosen es later) pid
-edits_keep chosen [] now later pid inside by own f g marked = record { kept = λ a h. h; own = own }
-edits_keep chosen (e ∷ es) now later pid inside by own f g marked =
+edits_keep chosen [] now later pid inside by own f g links marked = record { kept = λ a h. h; own = own }
+edits_keep chosen (e ∷ es) now later pid inside by own f g links marked =
     let parts = all-append (Keeps now later) (marks e) (flat_map marks es) marked in
-    let step = edit_keeps chosen now later e pid inside by.0 own f.0 g.0 parts.0 in
+    let step = edit_keeps chosen now later e pid inside by.0 own f.0 g.0 links.0 parts.0 in
     let rest : AlikeAfter (applied chosen e now) (applied chosen e later) (all_applied chosen es (applied chosen e now)) (all_applied chosen es (applied chosen e later)) pid =
-    edits_keep chosen es (applied chosen e now) (applied chosen e later) pid inside by.1 (own_stays_alike chosen now later e pid inside by.0 f.0 g.0 own) f.1 g.1 (all-mapped (flat_map marks es) step parts.1) in
+    edits_keep chosen es (applied chosen e now) (applied chosen e later) pid inside by.1 (own_stays_alike chosen now later e pid inside by.0 f.0 g.0 own) f.1 g.1 (no_links (OfOneKind (applied chosen e now) (applied chosen e later)) es links.1) (all-mapped (flat_map marks es) step parts.1) in
     record { kept = λ a h. rest.kept a (step a h); own = rest.own }
 
 -- the process's own part alone stays alike, whatever is marked
@@ -136,11 +164,11 @@ calls_are_lawful_lem = record {
   local = depends_on_what_it_saw;
   -- law/Marks.antt, for one edit, and `edits_mark` for edits in a row
   marks = λ k pid call chosen ready a there alone. edits_mark chosen (edits k pid call) k (fits k pid call chosen ready) a there alone;
-  -- law/Alike.antt, for one edit, and `edits_keep` for edits in a row
+  -- law/Alike.antt, for one edit, calls/Linking.antt, and `edits_keep` for edits in a row
   alike = λ k l pid call chosen ready ready_too inside same saw marked a kept.
       let made = same_edits k l pid call same saw in
       subst (λ es. Keeps (changed k pid call chosen) (all_applied chosen es l) a) (sym made)
-      ((edits_keep chosen (edits k pid call) k l pid (is_inside call) (fit k pid call chosen ready.well ready.alive).by (alike_of_own k l pid call ready.well ready_too.well same) (fits k pid call chosen ready) (fits_too k l pid call chosen ready_too made) marked).kept a kept);
+      ((edits_keep chosen (edits k pid call) k l pid (is_inside call) (fit k pid call chosen ready.well ready.alive).by (alike_of_own k l pid call ready.well ready_too.well same) (fits k pid call chosen ready) (fits_too k l pid call chosen ready_too made) (links_alike k l pid call ready.well ready_too.well same saw) marked).kept a kept);
   -- law/OwnAlike.antt, for one edit; law/OwnTold.antt: what a call is told of its process
   own_alike = λ k l pid call chosen ready ready_too inside same saw c c_inside same_c.
       let made = same_edits k l pid call same saw in

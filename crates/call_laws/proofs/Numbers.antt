@@ -12,10 +12,12 @@ use Rattle.model.proofs.Laws.{tie}
 use Rattle.call_laws.specs.WellFormed.{CanBeNamed}
 use Rattle.call_laws.specs.Numbers.{UnusedNumbersAreNowhere, EveryCallCanBeMade}
 use Rattle.call_laws.proofs.Maps.{not_none, all-mapped}
+use Rattle.call_laws.proofs.edits.Rights.{unset}
 
 pub unused_nowhere : UnusedNumbersAreNowhere
 unused_nowhere k n well no_inode no_description = record {
   inode = no_inode;
+  rights = unset k n well no_inode;
   description = no_description;
   unnamed = λ d x e. subst CanBeNamed (ap (mapped kind) no_inode) (well.names d x n e);
   unheld = λ pid f e. let there = well.slots pid f n e in not_none there.0 (sym there.1 ∙ no_description);

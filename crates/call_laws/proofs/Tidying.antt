@@ -42,6 +42,10 @@ get_tidy k n = get_retained k.inodes (is_reached (without_descriptions k)) n
 pub at_reached : {B : Type 0} (f : Option Inode → B) (k : Kernel) (n : ℕ) → reached k n ≡ true → f (get (tidy k).inodes n) ≡ f (get k.inodes n)
 at_reached f k n e = ap f (get_tidy k n ∙ ap (λ b. cond b (get k.inodes n) None) e)
 
+pub rights_reached : (k : Kernel) (n : ℕ) → reached k n ≡ true → get (tidy k).rights n ≡ get k.rights n
+unfolding tidy
+rights_reached k n e = get_retained k.rights (is_reached (without_descriptions k)) n ∙ ap (λ b. cond b (get k.rights n) None) e
+
 -- how many slots of a table name d
 abbrev pub named_in : ℕ → FinMap nat_cmp ℕ → ℕ
 named_in d table = count_by (λ e. e == d) (values table)

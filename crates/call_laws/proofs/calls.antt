@@ -6,5 +6,6 @@ pub mod WillFit
 pub mod NamesFit
 pub mod ContentsFit
 pub mod SlotsFit
+pub mod Linking
 pub mod Fits
 pub mod Reads

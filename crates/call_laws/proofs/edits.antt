@@ -10,3 +10,4 @@ pub mod Processes
 pub mod Ends
 pub mod SlotsAlike
 pub mod SlotMarks
+pub mod Rights

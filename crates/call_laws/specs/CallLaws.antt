@@ -3,7 +3,7 @@ use Rattle.std.specs.Prelude.{◌≡◌, ◌≢◌, ℕ, ◌≤◌, true, false,
 use Rattle.std.specs.List.{AllByRecursion}
 use Rattle.model.specs.State.{Kernel}
 use Rattle.model.specs.Aspects.{Aspect, Entry, Names, Size, Block, Links, Ends, Offset, Front, Back}
-use Rattle.model.specs.Aspects.{Keeps, KeepsAll}
+use Rattle.model.specs.Aspects.{Target, Rights, Keeps, KeepsAll}
 use Rattle.model.specs.Changes.{all_applied, tidy}
 use Rattle.model.specs.Calls.{Call, own}
 use Rattle.model.specs.Steps.{reads, writes, edits, IsNowhere, CanBeChosen}
@@ -23,6 +23,8 @@ object_of (Ends p) = p
 object_of (Offset d) = d
 object_of (Front p) = p
 object_of (Back p) = p
+object_of (Target n) = n
+object_of (Rights n) = n
 
 -- the state after a call, not tidied
 abbrev pub changed : Kernel → ℕ → Call → List ℕ → Kernel

@@ -24,7 +24,7 @@ abbrev pub after : ReadyCall → Kernel
 after r = changed r.state r.pid r.call r.chosen
 
 -- It changes how many names give a directory, and marks nothing of
--- that: `IsThere` has `Links` for files alone.
+-- that: `IsThere` has `Links` for what may have several names.
 pub record ChangesLinks (r : ReadyCall) (n : ℕ) : Type 0 where
   pub directory : kind_of r.state n ≡ Some A_directory
   pub unmarked : AllByRecursion (λ w. LeavesAlone w (Links n)) (writes r.state r.pid r.call)

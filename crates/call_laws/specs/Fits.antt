@@ -12,13 +12,13 @@ use Rattle.model.specs.Calls.{Slot, slot_of}
 use Rattle.model.specs.Steps.{IsNowhere}
 use Rattle.model.specs.Limits.{capacity}
 use Rattle.model.specs.Moments.{is_in}
-use Rattle.model.specs.Changes.{Made, number, Edit, Make_directory, Make_file, Name_file}
-use Rattle.model.specs.Changes.{Unname_file, Unname_directory, Move, Put_bytes, Cut, Take, Append}
-use Rattle.model.specs.Changes.{Set_offset, Open_inode, Make_pipe, Share_slot, Clear_slot}
+use Rattle.model.specs.Changes.{Made, number, Edit, Make_directory, Make_file, Make_fixed}
+use Rattle.model.specs.Changes.{Name_file, Unname_file, Unname_directory, Move, Put_bytes, Cut, Take, Append}
+use Rattle.model.specs.Changes.{Set_offset, Set_rights, Open_inode, Make_pipe, Share_slot, Clear_slot}
 use Rattle.model.specs.Changes.{New_process, End_process, marks, applied, process_of}
 use Rattle.model.specs.Changes.{Replaced, Over_nothing, Over_file, Over_directory}
 use Rattle.call_laws.specs.Objects.{IsThere, LeavesAlone}
-use Rattle.call_laws.specs.WellFormed.{IsRooted, Leads, descriptor_limit}
+use Rattle.call_laws.specs.WellFormed.{CanBeLinked, IsRooted, Leads, descriptor_limit}
 
 -- a name of a directory that is free
 pub record IsFree (k : Kernel) (d : ℕ) (x : Name) : Type 0 where
@@ -31,12 +31,18 @@ pub record Gives (k : Kernel) (d : ℕ) (x : Name) (n : ℕ) (what : Kind) : Typ
   pub gives : get (names_of k d) x ≡ Some n
   pub kind : kind_of k n ≡ Some what
 
--- what stands where a name is moved to: nothing, a file, or a directory with no names
+-- a name of a directory that gives n, which may have several
+pub record GivesLinked (k : Kernel) (d : ℕ) (x : Name) (n : ℕ) : Type 0 where
+  pub parent : IsRooted k d
+  pub gives : get (names_of k d) x ≡ Some n
+  pub kind : CanBeLinked (kind_of k n)
+
+-- what stands where a name is moved to: nothing, a directory with no names, or anything else
 abbrev pub CanBeReplaced : Kernel → ℕ → Option ℕ → Replaced → Type 0
 CanBeReplaced k n None Over_nothing = ⊤
 CanBeReplaced k n (Some m) (Over_directory r) =
     (n ≢ m) × (kind_of k m ≡ Some A_directory) × (r ≡ m) × (keys (names_of k m) ≡ [])
-CanBeReplaced k n (Some m) (Over_file r) = (n ≢ m) × (kind_of k m ≡ Some A_file) × (r ≡ m)
+CanBeReplaced k n (Some m) (Over_file r) = (n ≢ m) × CanBeLinked (kind_of k m) × (r ≡ m)
 CanBeReplaced k n _ _ = ⊥
 
 -- what moves is named, does not go to below itself, and may replace what has the new name
@@ -125,8 +131,8 @@ pub record CanEnd (k : Kernel) (pid : ℕ) (pipes : List ℕ) : Type 0 where
   pub alive : IsAlive k pid
   pub shared : ListsPipes k pid pipes
 
--- What an edit asks of the state. A file gets a further name only where it has one,
--- so that tidying before it changes nothing.
+-- What an edit asks of the state. What may have several names gets a further one only where it has
+-- one, so that tidying before it changes nothing.
 abbrev pub Fits : List ℕ → Kernel → Edit → Type 0
 Fits chosen k (Make_directory d x i) =
     IsFree k d x × IsNowhere k (number chosen (Made i))
@@ -134,8 +140,11 @@ Fits chosen k (Make_directory d x i) =
 Fits chosen k (Make_file d x i) =
     IsFree k d x × IsNowhere k (number chosen (Made i))
     × (is_in (number chosen (Made i)) chosen ≡ true)
-Fits chosen k (Name_file d x n) = IsFree k d x × (kind_of k n ≡ Some A_file) × (links k n ≢ 0)
-Fits chosen k (Unname_file d x n) = Gives k d x n A_file
+Fits chosen k (Make_fixed d x fixed i) =
+    IsFree k d x × IsNowhere k (number chosen (Made i))
+    × (is_in (number chosen (Made i)) chosen ≡ true)
+Fits chosen k (Name_file d x n) = IsFree k d x × CanBeLinked (kind_of k n) × (links k n ≢ 0)
+Fits chosen k (Unname_file d x n) = GivesLinked k d x n
 Fits chosen k (Unname_directory d x n) = Gives k d x n A_directory × (keys (names_of k n) ≡ [])
 Fits chosen k (Move d x e y n replaced) = CanMove k d x e y n replaced
 Fits chosen k (Put_bytes n place bytes before) =
@@ -145,6 +154,7 @@ Fits chosen k (Take p count) = (kind_of k p ≡ Some A_pipe) × (count ≤ lengt
 Fits chosen k (Append p bytes) =
     (kind_of k p ≡ Some A_pipe) × (length (pipe_of k p) + length bytes ≤ capacity)
 Fits chosen k (Set_offset d place) = (it : Description) × (get k.descriptions d ≡ Some it)
+Fits chosen k (Set_rights n rights) = kind_of k n ≢ None
 Fits chosen k (Open_inode i inode mode pid f) =
     CanOpen chosen k (number chosen (Made i)) (number chosen inode) pid f
 Fits chosen k (Make_pipe i pid f g) =
@@ -188,10 +198,26 @@ EditMarks chosen k e =
     Fits chosen k e → (a : Aspect) → IsThere k a → AllByRecursion (λ w. LeavesAlone w a) (marks e)
     → Keeps k (applied chosen e k) a
 
+-- an edit gives one more name to such a number alone
+abbrev pub LinksOnly : (ℕ → Type 0) → Edit → Type 0
+LinksOnly P (Name_file d x n) = P n
+LinksOnly P _ = ⊤
+
+-- edits in a row, of which the first alone gives one more name
+abbrev pub LinksFirst : (ℕ → Type 0) → List Edit → Type 0
+LinksFirst P [] = ⊤
+LinksFirst P (e ∷ es) = LinksOnly P e × AllByRecursion (LinksOnly (λ n. ⊥)) es
+
+-- a number stands for one kind in two states
+abbrev pub OfOneKind : Kernel → Kernel → ℕ → Type 0
+OfOneKind now later n = kind_of later n ≡ kind_of now n
+
 -- What two states have alike they have alike after the same edit, where they have alike what it
--- marks, and what its process sees of itself.
+-- marks, and what its process sees of itself. What gets one more name is of one kind in both: its
+-- call has seen that where it found it, and the edit does not mark it.
 abbrev pub EditKeeps : List ℕ → Kernel → Kernel → Edit → Type 0
 EditKeeps chosen now later e =
     (pid : ℕ) (inside : Bool) → IsBy pid inside e → OwnAlike now later pid → Fits chosen now e
-    → Fits chosen later e → KeepsAll now later (marks e) → (a : Aspect) → Keeps now later a
+    → Fits chosen later e → LinksOnly (OfOneKind now later) e → KeepsAll now later (marks e)
+    → (a : Aspect) → Keeps now later a
     → Keeps (applied chosen e now) (applied chosen e later) a

@@ -1,16 +1,27 @@
 -- A well-formed state of the plain kernel.
-use Rattle.std.specs.Prelude.{◌≡◌, ℕ, ◌≤◌, ◌<◌, List, [], ◌∷◌, Option, Some, ⊤, true}
+use Rattle.std.specs.Prelude.{◌≡◌, ◌≢◌, ℕ, ◌≤◌, ◌<◌, List, [], ◌∷◌, Option, Some, None, ⊤, true}
 use Rattle.model.specs.FiniteMap.{get}
 pub use Rattle.model.specs.Limits.{descriptor_limit}
-use Rattle.model.specs.State.{Name, Kind, Kernel, Description, A_file, A_directory, A_pipe, kind_of}
-use Rattle.model.specs.State.{names_of, links}
+use Rattle.model.specs.State.{Name, Kind, Kernel, Description, A_file, A_directory, A_pipe, A_link}
+use Rattle.model.specs.State.{A_fifo, A_socket, Rights, kind_of, names_of, links}
 use Rattle.model.specs.Changes.{process_of}
 use Rattle.model.specs.Moments.{is_alive}
 
--- what a name may give: a file or a directory
+-- what may have several names: a file, or what never changes
+abbrev pub CanBeLinked : Option Kind → Type 0
+CanBeLinked (Some A_file) = ⊤
+CanBeLinked (Some A_link) = ⊤
+CanBeLinked (Some A_fifo) = ⊤
+CanBeLinked (Some A_socket) = ⊤
+CanBeLinked _ = ⊥
+
+-- what a name may give: that, or a directory
 abbrev pub CanBeNamed : Option Kind → Type 0
 CanBeNamed (Some A_file) = ⊤
 CanBeNamed (Some A_directory) = ⊤
+CanBeNamed (Some A_link) = ⊤
+CanBeNamed (Some A_fifo) = ⊤
+CanBeNamed (Some A_socket) = ⊤
 CanBeNamed _ = ⊥
 
 -- what a description may be of: a file or a pipe
@@ -35,7 +46,7 @@ pub record WellFormed (k : Kernel) : Type 0 where
   -- the root is a directory, and no name gives it
   pub root : kind_of k k.root ≡ Some A_directory
   pub root_unnamed : links k k.root ≡ 0
-  -- each name gives a file or a directory, and each other directory has at most one
+  -- each name gives what may be named, and each other directory has at most one
   pub names : (d : ℕ) (x : Name) (n : ℕ) → get (names_of k d) x ≡ Some n → CanBeNamed (kind_of k n)
   pub one_name : (d : ℕ) → kind_of k d ≡ Some A_directory → links k d ≤ 1
   -- a directory with no name is the root, or has no names in it
@@ -50,5 +61,7 @@ pub record WellFormed (k : Kernel) : Type 0 where
   -- each description is of a file or a pipe
   pub descriptions : (d : ℕ) (it : Description) → get k.descriptions d ≡ Some it
       → CanBeOpened (kind_of k it.inode)
+  -- rights are set of inodes that are there
+  pub rights : (n : ℕ) (set : Rights) → get k.rights n ≡ Some set → kind_of k n ≢ None
   -- no process has a number above the count of those made
   pub counted : (pid : ℕ) → is_alive k pid ≡ true → pid ≤ k.made

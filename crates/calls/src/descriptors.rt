@@ -1,15 +1,16 @@
 // The plans of calls on descriptors and processes.
 ghost use Rattle.model.specs.Plans.{plan};
-ghost use Rattle.model.specs.Calls.{own, Close, Fstat, Dup, Dup2, Open_pipe, Fork, Exit};
+ghost use Rattle.model.specs.Calls.{own, Close, Fstat, Fchmod, Fchown, Dup, Dup2, Open_pipe, Fork};
+ghost use Rattle.model.specs.Calls.{Exit};
 ghost use Rattle.look.specs.Asked.{Comes, TellsIn};
 ghost use Rattle.look.specs.Shown.{own_in};
 
 use crate::checks::must_be_below;
 use crate::own::{free_from, pipe_in, pipes, slot, two_of};
 use heap::Heap;
-use ids::{Answer, Edit, Errno, Fd, MAX_PROCESSES, Pid, Refusal};
+use ids::{Answer, Edit, Errno, Fd, MAX_PROCESSES, NewOwner, Permissions, Pid, Refusal};
 use look::Look;
-use path_calls::{Change, changed_by, refuse_if, status, unchanged};
+use path_calls::{Change, changed_by, refuse_if, set_owner, set_permissions, status, unchanged};
 use walk::Reads;
 
 pub(crate) fn close<L: Look>(heap: Heap, look: &L, pid: Pid, fd: Fd) -> Result<Change, Refusal>
@@ -39,6 +40,34 @@ pub(crate) fn fstat<L: Look>(
 {
     let it = slot(look, pid, fd)?;
     status(look, it.inode, it.kind, reads)
+}
+
+pub(crate) fn fchmod<L: Look>(
+    look: &L,
+    pid: Pid,
+    fd: Fd,
+    permissions: Permissions,
+    reads: &mut Reads,
+) -> Result<Change, Refusal>
+    ensures { Comes (L.state look.now)
+        (plan (own_in (L.state look.now) pid) (Fchmod fd permissions)) reads.old result reads.new }
+{
+    let it = slot(look, pid, fd)?;
+    set_permissions(look, it.inode, permissions, reads)
+}
+
+pub(crate) fn fchown<L: Look>(
+    look: &L,
+    pid: Pid,
+    fd: Fd,
+    owner: NewOwner,
+    reads: &mut Reads,
+) -> Result<Change, Refusal>
+    ensures { Comes (L.state look.now)
+        (plan (own_in (L.state look.now) pid) (Fchown fd owner)) reads.old result reads.new }
+{
+    let it = slot(look, pid, fd)?;
+    set_owner(look, it.inode, it.kind, owner, reads)
 }
 
 pub(crate) fn dup<L: Look>(heap: Heap, look: &L, pid: Pid, fd: Fd) -> Result<Change, Refusal>

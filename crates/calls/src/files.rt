@@ -29,11 +29,11 @@ use ids::{
 use look::Look;
 use path::Path;
 use path_calls::{
-    Change, Edits, changed, changed_by, cut_to, must_not_be_directory, parsed, refuse_if, size,
-    unchanged,
+    Change, Edits, changed, changed_by, cut_to, must_not_be_directory, must_not_be_special, parsed,
+    refuse_if, size, unchanged,
 };
 use std::alloc::AllocError;
-use walk::{Last, Reads, walk_to_last};
+use walk::{Last, Reads, must_not_be_link, walk_to_last};
 
 pub(crate) fn open<L: Look>(
     look: &L,
@@ -111,6 +111,8 @@ fn opened_old<L: Look>(
 {
     must_be_new(flags)?;
     must_not_be_directory(&place, Errno::EISDIR)?;
+    must_not_be_link(&place)?;
+    must_not_be_special(&place, Errno::ENXIO)?;
     let cut = cut_if(look, flags, place.0, reads)?;
     let edits = cut.with(Edit::OpenInode {
         index: 0,

@@ -121,6 +121,7 @@ fn mark(edit: &Edit, touches: &mut Touches) -> Result<(), AllocError>
     match edit {
         Edit::MakeDirectory { parent, name, .. }
         | Edit::MakeFile { parent, name, .. }
+        | Edit::MakeFixed { parent, name, .. }
         | Edit::UnnameDirectory { parent, name, .. } => mark_entry(*parent, name, touches),
         Edit::NameFile { parent, name, file } | Edit::UnnameFile { parent, name, file } => {
             mark_name(*parent, name, *file, touches)
@@ -147,6 +148,7 @@ fn mark(edit: &Edit, touches: &mut Touches) -> Result<(), AllocError>
         Edit::Take { pipe, .. } => touches.write(Aspect::Front(*pipe)),
         Edit::Append { pipe, .. } => touches.write(Aspect::Back(*pipe)),
         Edit::SetOffset { description, .. } => touches.write(Aspect::Offset(*description)),
+        Edit::SetRights { inode, .. } => touches.write(Aspect::Rights(*inode)),
         Edit::ShareSlot { pipes, .. }
         | Edit::ClearSlot { pipes, .. }
         | Edit::NewProcess { pipes, .. }

@@ -6,14 +6,17 @@ ghost use Rattle.look.specs.Asked.{Comes};
 ghost use Rattle.calls.specs.Planned.{IsPlan, IsPlanWithoutTouches};
 
 use crate::at_offset::{pread, pwrite};
-use crate::descriptors::{close, dup, dup2, exit, fork, fstat, pipe};
+use crate::descriptors::{close, dup, dup2, exit, fchmod, fchown, fork, fstat, pipe};
 use crate::files::{ftruncate, open, read, write};
 use crate::marks::mark_all;
 use crate::seek::lseek;
 use heap::Heap;
 use ids::{Answer, Call, Edit, Errno, Pid, Refusal, Touch};
 use look::Look;
-use path_calls::{Change, link, list, mkdir, rename, rmdir, stat, truncate, unlink};
+use path_calls::{
+    Change, chmod, chown, link, list, lstat, mkdir, mknod, readlink, rename, rmdir, stat, symlink,
+    truncate, unlink,
+};
 use std::alloc::AllocError;
 use walk::Reads;
 
@@ -118,6 +121,14 @@ fn change_of<L: Look>(
         Call::Mkdir(path) => mkdir(look, path, reads),
         Call::Rmdir(path) => rmdir(look, path, reads),
         Call::List(path) => list(look, path, reads),
+        Call::Symlink(target, path) => symlink(look, target, path, reads),
+        Call::Readlink(path) => readlink(look, path, reads),
+        Call::Lstat(path) => lstat(look, path, reads),
+        Call::Mknod(path, special) => mknod(look, path, *special, reads),
+        Call::Chmod(path, permissions) => chmod(look, path, *permissions, reads),
+        Call::Chown(path, owner) => chown(look, path, *owner, reads),
+        Call::Fchmod(fd, permissions) => fchmod(look, pid, *fd, *permissions, reads),
+        Call::Fchown(fd, owner) => fchown(look, pid, *fd, *owner, reads),
         Call::Dup(fd) => dup(heap, look, pid, *fd),
         Call::Dup2(old, new) => dup2(heap, look, pid, *old, *new),
         Call::Pipe => pipe(heap, look, pid),

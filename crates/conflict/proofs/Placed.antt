@@ -13,6 +13,7 @@ use Rattle.std.proofs.lemmas.Map.Lookups.{exact_bytes}
 use Rattle.std.proofs.lemmas.List.{append-nil}
 use Rattle.std.proofs.lemmas.List.Folds.{list_any-append}
 use Rattle.model.specs.Aspects.{Aspect, Entry, Names, Size, Block, Links, Ends, Offset, Front, Back}
+use Rattle.model.specs.Aspects.{Target, Rights}
 use Rattle.model.specs.Steps.{Touch}
 use Rattle.model.specs.Clashes.{same_aspect, names_against, clash, has_touch, name_lt}
 use Rattle.records.specs.Codes.{touch_cmp}
@@ -145,6 +146,10 @@ by_name (Names d) true (Front q) v h = none_here h
 by_name (Names d) false (Front q) v h = none_here h
 by_name (Names d) true (Back q) v h = none_here h
 by_name (Names d) false (Back q) v h = none_here h
+by_name (Names d) true (Target q) v h = none_here h
+by_name (Names d) false (Target q) v h = none_here h
+by_name (Names d) true (Rights q) v h = none_here h
+by_name (Names d) false (Rights q) v h = none_here h
 by_name (Size n) w (Names e) true h = none_here h
 by_name (Size n) w (Names e) false h = none_here h
 by_name (Block n i) w (Names e) true h = none_here h
@@ -159,6 +164,10 @@ by_name (Front p) w (Names e) true h = none_here h
 by_name (Front p) w (Names e) false h = none_here h
 by_name (Back p) w (Names e) true h = none_here h
 by_name (Back p) w (Names e) false h = none_here h
+by_name (Target p) w (Names e) true h = none_here h
+by_name (Target p) w (Names e) false h = none_here h
+by_name (Rights p) w (Names e) true h = none_here h
+by_name (Rights p) w (Names e) false h = none_here h
 by_name a w b v h = none_here h
 
 right_of : (a b : Bool) → a ≡ false → (a || b) ≡ true → b ≡ true

@@ -20,6 +20,8 @@ pub fn is_same_aspect(first: &Aspect, second: &Aspect) -> bool
         (Aspect::Offset(d), Aspect::Offset(e)) => d == e,
         (Aspect::Front(p), Aspect::Front(q)) => p == q,
         (Aspect::Back(p), Aspect::Back(q)) => p == q,
+        (Aspect::Target(n), Aspect::Target(m)) => n == m,
+        (Aspect::Rights(n), Aspect::Rights(m)) => n == m,
         _ => false,
     }
 }

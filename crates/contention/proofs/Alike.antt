@@ -3,6 +3,7 @@ use Rattle.std.proofs.Common.{◌≡◌, ◌∙◌, sym, refl, ap, Bool, true, f
 use Rattle.std.specs.List.{list_any}
 use Rattle.std.proofs.lemmas.Bool.{false≢true, eqb-true, eq-eqb, and_parts, and_from, cases_Bool, or_right}
 use Rattle.model.specs.Aspects.{Aspect, Entry, Names, Size, Block, Links, Ends, Offset, Front, Back}
+use Rattle.model.specs.Aspects.{Target, Rights}
 use Rattle.model.specs.Paths.{same_name}
 use Rattle.model.specs.Steps.{Touch}
 use Rattle.model.specs.Clashes.{same_aspect, has_touch}
@@ -28,6 +29,8 @@ aspect_itself (Ends p) = eq-eqb p p refl
 aspect_itself (Offset d) = eq-eqb d d refl
 aspect_itself (Front p) = eq-eqb p p refl
 aspect_itself (Back p) = eq-eqb p p refl
+aspect_itself (Target p) = eq-eqb p p refl
+aspect_itself (Rights p) = eq-eqb p p refl
 
 pub same_name_is : (x y : List ℕ) → same_name x y ≡ true → x ≡ y
 same_name_is [] [] h = refl
@@ -45,6 +48,8 @@ aspect_is (Ends d) (Ends e) h = ap Ends (eqb-true d e h)
 aspect_is (Offset d) (Offset e) h = ap Offset (eqb-true d e h)
 aspect_is (Front d) (Front e) h = ap Front (eqb-true d e h)
 aspect_is (Back d) (Back e) h = ap Back (eqb-true d e h)
+aspect_is (Target d) (Target e) h = ap Target (eqb-true d e h)
+aspect_is (Rights d) (Rights e) h = ap Rights (eqb-true d e h)
 aspect_is a b h = absurd (false≢true h)
 
 mode_itself : (w : Bool) → (if w then w else not w) ≡ true

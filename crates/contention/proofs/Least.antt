@@ -4,6 +4,7 @@ use Rattle.std.proofs.lemmas.Bool.{true≢false, eqb-true, and_parts, and_left, 
 use Rattle.std.proofs.lemmas.Bool.Decides.{nat_tests}
 use Rattle.model.specs.State.{Name}
 use Rattle.model.specs.Aspects.{Aspect, Entry, Names, Size, Block, Links, Ends, Offset, Front, Back}
+use Rattle.model.specs.Aspects.{Target, Rights}
 use Rattle.model.specs.Paths.{same_name}
 use Rattle.model.specs.Steps.{Touch}
 use Rattle.model.specs.Clashes.{has_touch, name_lt, lesser, written_name, with_name, least_written}
@@ -105,6 +106,8 @@ least_more d (Ends n) w us o least = least_kept d (touch_on (Ends n) w) us o (λ
 least_more d (Offset n) w us o least = least_kept d (touch_on (Offset n) w) us o (λ y. refl) least
 least_more d (Front n) w us o least = least_kept d (touch_on (Front n) w) us o (λ y. refl) least
 least_more d (Back n) w us o least = least_kept d (touch_on (Back n) w) us o (λ y. refl) least
+least_more d (Target n) w us o least = least_kept d (touch_on (Target n) w) us o (λ y. refl) least
+least_more d (Rights n) w us o least = least_kept d (touch_on (Rights n) w) us o (λ y. refl) least
 
 pub least_is : (d : ℕ) (us : List Touch) → IsLeast d us (least_written d us)
 least_is d [] = λ y. refl

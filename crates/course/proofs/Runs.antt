@@ -4,6 +4,7 @@ use Rattle.std.specs.Prelude.{Option, Some, IfSome, option_map, Result, Ok, Err,
 use Rattle.ids.specs.declared.call.Call.TheVariants as call
 use Rattle.ids.specs.declared.reply.Kind.{Kind}
 use Rattle.ids.specs.declared.reply.Stat.{Stat}
+use Rattle.ids.specs.declared.rights.Rights.{Rights}
 use Rattle.model.specs.Entries.{Op, Reply}
 use Rattle.machine.specs.Shown.{Shown}
 use Rattle.course.specs.declared.fault.Fault.{Fault}
@@ -12,7 +13,7 @@ use Rattle.course.specs.declared.files.Made.{Made}
 use Rattle.course.specs.declared.names.Twice.{Twice}
 use Rattle.course.specs.declared.place.Place.{Place}
 use Rattle.course.specs.Course.{Began, Course, Give, Step, ◌>>=◌, HasBegun, HasRun, IsTaken, Ran, step}
-use Rattle.course.specs.Courses.{both, by_descriptor, closing, closing_for, closing_spare, doing, done_with, finding_at, if_absent, if_found, if_listed, if_same, if_there, inside, listing, listing_at, on_ok, opening, seeing, stating, staying}
+use Rattle.course.specs.Courses.{by_descriptor, closing, closing_for, closing_spare, doing, done_with, finding_at, if_absent, if_found, if_listed, if_same, if_there, inside, listing, listing_at, on_ok, opening_file, seeing, stating, staying}
 use Rattle.course.specs.Faults.{gives_none, is_abort, is_missing, is_there}
 
 -- nothing is done
@@ -38,6 +39,10 @@ gives m g h e = goes m (λ y. Give (g y)) h (record { is = (e, refl) })
 -- a course of a process that goes by another name too
 pub by_pid : {A : Type 0} (c : ℕ → Course A) {p q : ℕ} {old new : Shown} {outcome : A} → p ≡ q → Ran old (c p) outcome new → Ran old (c q) outcome new
 by_pid c {old = old} {new = new} {outcome = outcome} e h = subst (λ n. Ran old (c n) outcome new) e h
+
+-- a course that gives something rights that go by another name too
+pub by_rights : {A : Type 0} (c : Rights → Course A) {p q : Rights} {old new : Shown} {outcome : A} → p ≡ q → Ran old (c p) outcome new → Ran old (c q) outcome new
+by_rights c {old = old} {new = new} {outcome = outcome} e h = subst (λ r. Ran old (c r) outcome new) e h
 
 -- a course that fails, where what comes behind it needs its success
 pub stops : {A B : Type 0} (m : Course (Result A Fault)) (f : A → Course (Result B Fault)) {old new : Shown} {e : Fault} (r : Result B Fault) → IsErrAnd r (λ y. y ≡ e) → Ran old m (Err e) new → Ran old (m >>= on_ok f) r new
@@ -71,8 +76,8 @@ pub other_file : (pid fd inode : ℕ) (stat : Stat) {old new : Shown} {r : Resul
 other_file pid fd inode stat {old} {new} {r} e h = subst (λ (b : Bool). Ran old (if b then Give (Ok fd) else closing pid fd fault.Stale) r new) (sym e) h
 
 -- the name is there, and may be
-pub there : (pid : ℕ) (path : List ℕ) (exclusive : Bool) (e : Fault) (opened : Result ℕ Fault) {old new : Shown} {r : Result Made Fault} → opened ≡ Err e → exclusive ≡ false → is_there e ≡ true → Ran old (opening pid path both >>= on_ok (seeing pid false)) r new → Ran old (if_there pid path exclusive opened) r new
-there pid path exclusive e opened {old} {new} {r} o x y h = subst (λ (z : Result ℕ Fault). Ran old (if_there pid path exclusive z) r new) (sym o) (subst (λ (b : Bool). Ran old (if b || not (is_there e) then Give (Err e) else (opening pid path both >>= on_ok (seeing pid false))) r new) (sym x) (subst (λ (b : Bool). Ran old (if false || not b then Give (Err e) else (opening pid path both >>= on_ok (seeing pid false))) r new) (sym y) h))
+pub there : (pid : ℕ) (path : List ℕ) (exclusive : Bool) (rights : Rights) (e : Fault) (opened : Result ℕ Fault) {old new : Shown} {r : Result Made Fault} → opened ≡ Err e → exclusive ≡ false → is_there e ≡ true → Ran old (opening_file pid path >>= on_ok (seeing pid false)) r new → Ran old (if_there pid path exclusive rights opened) r new
+there pid path exclusive rights e opened {old} {new} {r} o x y h = subst (λ (z : Result ℕ Fault). Ran old (if_there pid path exclusive rights z) r new) (sym o) (subst (λ (b : Bool). Ran old (if b || not (is_there e) then Give (Err e) else (opening_file pid path >>= on_ok (seeing pid false))) r new) (sym x) (subst (λ (b : Bool). Ran old (if false || not b then Give (Err e) else (opening_file pid path >>= on_ok (seeing pid false))) r new) (sym y) h))
 
 -- a name is missing, and another error
 pub missing : (pid : ℕ) (from to : List ℕ) (e : Fault) {old new : Shown} {r : Result (Unit {0}) Fault} → is_missing e ≡ true → Ran old (doing pid (call.Rename from to)) r new → Ran old (if_absent pid from to (Err e)) r new
@@ -86,7 +91,7 @@ pub spare_closed : (pid : ℕ) (is_open : Bool) (made : Made) {old new : Shown} 
 spare_closed pid is_open made {old} {new} {r} e h = subst (λ (b : Bool). Ran old (closing_spare pid b made) r new) (sym e) h
 
 -- an object that is looked for by its path first
-pub by_path : (pid : ℕ) (kind : Kind) (inode : ℕ) (fd : Option ℕ) (o : Option (List ℕ)) (path : List ℕ) {old new : Shown} {r : Result Stat Fault} → o ≡ Some path → Ran old (stating pid (call.Stat path) >>= if_found pid kind inode fd) r new → Ran old (finding_at pid kind inode fd o) r new
+pub by_path : (pid : ℕ) (kind : Kind) (inode : ℕ) (fd : Option ℕ) (o : Option (List ℕ)) (path : List ℕ) {old new : Shown} {r : Result Stat Fault} → o ≡ Some path → Ran old (stating pid (call.Lstat path) >>= if_found pid kind inode fd) r new → Ran old (finding_at pid kind inode fd o) r new
 by_path pid kind inode fd o path {old} {new} {r} e h = subst (λ (z : Option (List ℕ)). Ran old (finding_at pid kind inode fd z) r new) (sym e) h
 
 -- the path gives the object, or another one, or none
@@ -124,7 +129,7 @@ pub ran_began : {A : Type 0} (c : Course A) {old new : Shown} {outcome : A} → 
 ran_began c {old} {new} {outcome} h = record { is = began c old new outcome h.is }
 
 -- the names of a directory by its path, which is told twice
-pub listed_by : (pid inode : ℕ) (o : Option Twice) (p : Twice) {old new : Shown} {r : Result (List (List ℕ)) Fault} → o ≡ Some p → IfSome o (λ (p : Twice). p.second ≡ p.first) → Ran old (stating pid (call.Stat p.first) >>= if_listed pid p.second inode) r new → Ran old (listing_at pid inode (option_map (λ (p : Twice). p.first) o)) r new
+pub listed_by : (pid inode : ℕ) (o : Option Twice) (p : Twice) {old new : Shown} {r : Result (List (List ℕ)) Fault} → o ≡ Some p → IfSome o (λ (p : Twice). p.second ≡ p.first) → Ran old (stating pid (call.Lstat p.first) >>= if_listed pid p.second inode) r new → Ran old (listing_at pid inode (option_map (λ (p : Twice). p.first) o)) r new
 listed_by pid inode o p {old} {new} {r} e same h =
     let twice : p.second ≡ p.first = subst (λ (z : Option Twice). IfSome z (λ (p : Twice). p.second ≡ p.first)) e same in
-    subst (λ (z : Option Twice). Ran old (listing_at pid inode (option_map (λ (p : Twice). p.first) z)) r new) (sym e) (subst (λ (path : List ℕ). Ran old (stating pid (call.Stat p.first) >>= if_listed pid path inode) r new) twice h)
+    subst (λ (z : Option Twice). Ran old (listing_at pid inode (option_map (λ (p : Twice). p.first) z)) r new) (sym e) (subst (λ (path : List ℕ). Ran old (stating pid (call.Lstat p.first) >>= if_listed pid path inode) r new) twice h)

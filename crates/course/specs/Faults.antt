@@ -69,15 +69,28 @@ abbrev pub is_there : Fault → Bool
 is_there (fault.Refused errno.EEXIST) = true
 is_there _ = false
 
--- whether an error says that a path gives nothing: a name on it is not there, or is no directory
+-- whether an error says that a path gives nothing: a name on it is not there, or is no directory, as
+-- a symbolic link is none
 abbrev pub gives_none : Fault → Bool
 gives_none (fault.Refused errno.ENOENT) = true
 gives_none (fault.Refused errno.ENOTDIR) = true
+gives_none (fault.Refused errno.ELOOP) = true
 gives_none _ = false
 
 -- A path that gives nothing does not give the object that is meant.
 abbrev pub stale_by : Fault → Fault
 stale_by e = if gives_none e then fault.Stale else e
+
+-- whether an error says that no file is there to be opened, but a link, a FIFO or a socket
+abbrev pub is_special : Fault → Bool
+is_special (fault.Refused errno.ELOOP) = true
+is_special (fault.Refused errno.ENXIO) = true
+is_special _ = false
+
+-- Where one of these stands, the path does not give the file that is meant.
+abbrev pub unless_special : Result ℕ Fault → Result ℕ Fault
+unless_special (Ok fd) = Ok fd
+unless_special (Err e) = if is_special e then Err fault.Stale else Err e
 
 abbrev pub is_abort : Fault → Bool
 is_abort (fault.Aborted why) = true

@@ -1,4 +1,5 @@
 pub mod Course
 pub mod Hands
 pub mod Faults
+pub mod Rights
 pub mod Courses

@@ -4,14 +4,17 @@ ghost use Rattle.ids.specs.declared.call.Call.TheVariants as asked;
 ghost use Rattle.course.specs.Hands.{bound};
 ghost use Rattle.course.specs.Course.{Ran};
 ghost use Rattle.course.specs.Courses.{appending, both, checking, closing, creating, doing};
-ghost use Rattle.course.specs.Courses.{IsOffset, fresh, if_there, opening, opening_this, reading, seeing};
+ghost use Rattle.course.specs.Courses.{IsOffset, fresh, if_there, opening, opening_file, opening_this};
+ghost use Rattle.course.specs.Courses.{reading, seeing, seeing_new};
 ghost use Rattle.course.specs.Courses.{closing_for, stating, writing};
-ghost use Rattle.course.specs.Faults.{is_there, unless_aborted};
+ghost use Rattle.course.specs.Faults.{is_special, is_there, unless_aborted, unless_special};
 
 use crate::fault::{Fault, bytes_in, count_in, fd_in};
 use crate::hand::Hand;
+use crate::rights::both_of;
+use crate::updates::entitle_open;
 use heap::Heap;
-use ids::{Bytes, Call, Errno, Fd, Num, OpenFlags, Stat};
+use ids::{Bytes, Call, Errno, Fd, Num, OpenFlags, Rights, Stat};
 use machine::Machine;
 
 /// A file that was opened.
@@ -33,6 +36,43 @@ fn open<K: Machine>(hand: &mut Hand<K>, path: Bytes, flags: OpenFlags) -> Result
 {
     let reply = hand.ask(Call::Open(path, flags));
     fd_in(reply)
+}
+
+// Whether an error says that no file is there to be opened, but a link, a FIFO or a socket.
+fn is_special(fault: &Fault) -> bool
+    ensures { result ≡ is_special fault.now }
+{
+    match fault {
+        Fault::Refused(errno) => *errno == Errno::ELOOP || *errno == Errno::ENXIO,
+        _ => false,
+    }
+}
+
+// Where one of these stands, the path does not give the file that is meant.
+fn unless_special(opened: Result<Fd, Fault>) -> Result<Fd, Fault>
+    ensures { result ≡ unless_special opened }
+{
+    match opened {
+        Ok(fd) => Ok(fd),
+        Err(fault) => {
+            if is_special(&fault) {
+                Err(Fault::Stale)
+            } else {
+                Err(fault)
+            }
+        }
+    }
+}
+
+// Opens the file of a path that was there, for reading and writing. Where it is a link, a FIFO or a
+// socket now, or leads through a link, the path is stale.
+fn open_file<K: Machine>(hand: &mut Hand<K>, path: Bytes) -> Result<Fd, Fault>
+    ensures bound { bound hand.new ≡ bound hand.old }
+    ensures ran { Ran hand.old.shown
+        (opening_file hand.old.pid path) result hand.new.shown }
+{
+    let opened = open(hand, path, both());
+    unless_special(opened)
 }
 
 /// Closes a descriptor.
@@ -120,7 +160,7 @@ pub(crate) fn open_this<K: Machine>(
     ensures ran { Ran hand.old.shown
         (opening_this hand.old.pid path inode) result hand.new.shown }
 {
-    let fd = open(hand, path, both())?;
+    let fd = open_file(hand, path)?;
     check_open(hand, fd, inode)
 }
 
@@ -136,6 +176,20 @@ fn see<K: Machine>(hand: &mut Hand<K>, fd: Fd, is_new: bool) -> Result<Made, Fau
     }
 }
 
+// Gives a new file its owner and its permissions by its descriptor, and tells about it. Where one of
+// these fails the descriptor is closed.
+fn see_new<K: Machine>(hand: &mut Hand<K>, fd: Fd, rights: Rights) -> Result<Made, Fault>
+    ensures bound { bound hand.new ≡ bound hand.old }
+    ensures ran { Ran hand.old.shown
+        (seeing_new hand.old.pid rights fd) result hand.new.shown }
+{
+    let owner = both_of(rights.owner);
+    match entitle_open(hand, fd, Some(owner), Some(rights.permissions)) {
+        Ok(()) => see(hand, fd, true),
+        Err(fault) => close_for(hand, fd, fault),
+    }
+}
+
 // Whether an error says that the name is there.
 fn is_there(fault: &Fault) -> bool
     ensures { result ≡ is_there fault.now }
@@ -146,44 +200,46 @@ fn is_there(fault: &Fault) -> bool
     }
 }
 
-// What comes behind the opening of a new file: where its name is there already, that file is opened,
-// unless `exclusive` is true.
+// What comes behind the opening of a new file, which gets these rights: where its name is there already,
+// that file is opened, unless `exclusive` is true.
 fn go_on<K: Machine>(
     hand: &mut Hand<K>,
     path: Bytes,
     exclusive: bool,
+    rights: Rights,
     opened: Result<Fd, Fault>,
 ) -> Result<Made, Fault>
     ensures bound { bound hand.new ≡ bound hand.old }
     ensures ran { Ran hand.old.shown
-        (if_there hand.old.pid path exclusive opened) result hand.new.shown }
+        (if_there hand.old.pid path exclusive rights opened) result hand.new.shown }
 {
     match opened {
-        Ok(fd) => see(hand, fd, true),
+        Ok(fd) => see_new(hand, fd, rights),
         Err(fault) => {
             if exclusive || !is_there(&fault) {
                 return Err(fault);
             }
-            let fd = open(hand, path, both())?;
+            let fd = open_file(hand, path)?;
             see(hand, fd, false)
         }
     }
 }
 
-// Makes a file and opens it for reading and writing. Where the name is there already the file of
-// that name is opened, unless `exclusive` is true. The two paths are the same.
+// Makes a file with these rights and opens it for reading and writing. Where the name is there already
+// the file of that name is opened, unless `exclusive` is true. The two paths are the same.
 pub(crate) fn create<K: Machine>(
     hand: &mut Hand<K>,
     path: Bytes,
     again: Bytes,
     exclusive: bool,
+    rights: Rights,
 ) -> Result<Made, Fault>
     ensures bound { bound hand.new ≡ bound hand.old }
     ensures ran { Ran hand.old.shown
-        (creating hand.old.pid path again exclusive) result hand.new.shown }
+        (creating hand.old.pid path again exclusive rights) result hand.new.shown }
 {
     let opened = open(hand, path, fresh());
-    go_on(hand, again, exclusive, opened)
+    go_on(hand, again, exclusive, rights, opened)
 }
 
 // Cuts or grows the file of a descriptor.

@@ -1,26 +1,28 @@
 // Requests on paths.
-ghost use Rattle.std.specs.Prelude.{◌≡◌, IfSome, is_some, true};
+ghost use Rattle.std.specs.Prelude.{◌≡◌, IfSome, false, is_some, true};
 ghost use Rattle.ids.specs.declared.call.Call.TheVariants as asked;
-ghost use Rattle.course.specs.Hands.{bound};
+ghost use Rattle.ids.specs.declared.call.Op.TheVariants as op;
+ghost use Rattle.course.specs.Hands.{bound, is_ending};
 ghost use Rattle.course.specs.Course.{Ran};
-ghost use Rattle.course.specs.Courses.{doing, inside, linking, listing, looking_for, making, moving};
-ghost use Rattle.course.specs.Courses.{same_or_stale, stating};
+ghost use Rattle.course.specs.Courses.{doing, inside, linking, listing, looking_at, looking_for};
+ghost use Rattle.course.specs.Courses.{making, moving, reading_link, reading_target, same_or_stale};
+ghost use Rattle.course.specs.Courses.{stating, told_or_stale};
 ghost use Rattle.course.specs.Faults.{gives_none, is_missing, stale_by};
 
-use crate::fault::{Fault, names_in};
+use crate::fault::{Fault, bytes_in, names_in};
 use crate::hand::Hand;
 use crate::place::{Place, check_place};
 use heap::Heap;
 use ids::{Bytes, Call, Errno, NameList, Num, Stat};
 use machine::Machine;
 
-// What a path gives.
+// What a path gives, which may be a symbolic link.
 fn stat_path<K: Machine>(hand: &mut Hand<K>, path: Bytes) -> Result<Stat, Fault>
     ensures bound { bound hand.new ≡ bound hand.old }
     ensures ran { Ran hand.old.shown
-        (stating hand.old.pid (asked.Stat path)) result hand.new.shown }
+        (stating hand.old.pid (asked.Lstat path)) result hand.new.shown }
 {
-    hand.stat_call(Call::Stat(path))
+    hand.stat_call(Call::Lstat(path))
 }
 
 /// What a name of this directory gives, by its path. It is `Stale` where the directory's own path
@@ -32,7 +34,7 @@ pub fn look_up<K: Machine>(
 ) -> Result<Stat, Fault>
     ensures bound { bound hand.new ≡ bound hand.old }
     ensures ran { Ran hand.old.shown
-        (inside hand.old.pid place (stating hand.old.pid (asked.Stat path)))
+        (inside hand.old.pid place (stating hand.old.pid (asked.Lstat path)))
         result hand.new.shown }
 {
     check_place(hand, place)?;
@@ -49,35 +51,19 @@ pub fn list<K: Machine>(hand: &mut Hand<K>, heap: Heap, path: Bytes) -> Result<N
     names_in(heap, reply)
 }
 
-// Makes a directory, and tells about it. The two paths are the same.
-fn make_directory_at<K: Machine>(
+// Makes a name by this call, which does not end the process, and tells what that path gives then.
+pub(crate) fn make_at<K: Machine>(
     hand: &mut Hand<K>,
-    path: Bytes,
+    call: Call,
     again: Bytes,
 ) -> Result<Stat, Fault>
+    requires { is_ending (op.Call call) ≡ false }
     ensures bound { bound hand.new ≡ bound hand.old }
     ensures ran { Ran hand.old.shown
-        (making hand.old.pid (asked.Mkdir path) again) result hand.new.shown }
+        (making hand.old.pid call again) result hand.new.shown }
 {
-    hand.do_call(Call::Mkdir(path))?;
+    hand.do_call(call)?;
     stat_path(hand, again)
-}
-
-/// Makes a directory in the one of `place`, and tells about it. The two paths are the same. It is
-/// `Stale`, and nothing is made, where the path of `place` gives another object, or none.
-pub fn make_directory<K: Machine>(
-    hand: &mut Hand<K>,
-    place: Option<Place>,
-    path: Bytes,
-    again: Bytes,
-) -> Result<Stat, Fault>
-    ensures bound { bound hand.new ≡ bound hand.old }
-    ensures ran { Ran hand.old.shown
-        (inside hand.old.pid place (making hand.old.pid (asked.Mkdir path) again))
-        result hand.new.shown }
-{
-    check_place(hand, place)?;
-    make_directory_at(hand, path, again)
 }
 
 // Whether an error says that a path gives nothing.
@@ -85,7 +71,7 @@ pub(crate) fn gives_none(fault: &Fault) -> bool
     ensures { result ≡ gives_none fault.now }
 {
     match fault {
-        Fault::Refused(errno) => *errno == Errno::ENOENT || *errno == Errno::ENOTDIR,
+        Fault::Refused(errno) => { matches!(errno, Errno::ENOENT | Errno::ENOTDIR | Errno::ELOOP) }
         _ => false,
     }
 }
@@ -117,6 +103,32 @@ fn same_or_stale(inode: Num, looked: Result<Stat, Fault>) -> Result<(), Fault>
     }
 }
 
+// The same of a directory, where it is asked as well what that is like.
+fn told_or_stale(inode: Num, looked: Result<Stat, Fault>) -> Result<Stat, Fault>
+    ensures { result ≡ told_or_stale inode looked }
+{
+    match looked {
+        Ok(stat) => {
+            if stat.num == inode {
+                Ok(stat)
+            } else {
+                Err(Fault::Stale)
+            }
+        }
+        Err(fault) => Err(stale_by(fault)),
+    }
+}
+
+// What a directory is like, by its path. It is `Stale` where that gives another object, or none.
+pub(crate) fn look_at<K: Machine>(hand: &mut Hand<K>, place: Place) -> Result<Stat, Fault>
+    ensures bound { bound hand.new ≡ bound hand.old }
+    ensures ran { Ran hand.old.shown
+        (looking_at hand.old.pid place) result hand.new.shown }
+{
+    let looked = stat_path(hand, place.path);
+    told_or_stale(place.inode, looked)
+}
+
 // Looks whether a path gives this object.
 pub(crate) fn look_for<K: Machine>(hand: &mut Hand<K>, path: Bytes, inode: Num) -> Result<(), Fault>
     ensures bound { bound hand.new ≡ bound hand.old }
@@ -125,21 +137,6 @@ pub(crate) fn look_for<K: Machine>(hand: &mut Hand<K>, path: Bytes, inode: Num) 
 {
     let looked = stat_path(hand, path);
     same_or_stale(inode, looked)
-}
-
-// Makes a link, and tells about it.
-fn link_to<K: Machine>(
-    hand: &mut Hand<K>,
-    path: Bytes,
-    new_path: Bytes,
-    again: Bytes,
-) -> Result<Stat, Fault>
-    ensures bound { bound hand.new ≡ bound hand.old }
-    ensures ran { Ran hand.old.shown
-        (making hand.old.pid (asked.Link path new_path) again) result hand.new.shown }
-{
-    hand.do_call(Call::Link(path, new_path))?;
-    stat_path(hand, again)
 }
 
 /// A path as it is used once and then again.
@@ -151,7 +148,35 @@ pub struct Twice {
     pub second: Bytes,
 }
 
-// Gives a file the second path too, by the first one, where that gives this file, and tells about it.
+// The target of the symbolic link of a path.
+fn read_target<K: Machine>(hand: &mut Hand<K>, heap: Heap, path: Bytes) -> Result<Bytes, Fault>
+    ensures bound { bound hand.new ≡ bound hand.old }
+    ensures ran { Ran hand.old.shown
+        (reading_target hand.old.pid path) result hand.new.shown }
+{
+    let reply = hand.ask(Call::Readlink(path));
+    bytes_in(heap, reply)
+}
+
+/// The target of a symbolic link, by the path that it has, where that gives this link. Where it gives
+/// another object, or none, it is `Stale`; and where it is no link the kernel refuses it by EINVAL.
+pub fn read_link<K: Machine>(
+    hand: &mut Hand<K>,
+    heap: Heap,
+    path: Twice,
+    inode: Num,
+) -> Result<Bytes, Fault>
+    requires { path.second ≡ path.first }
+    ensures bound { bound hand.new ≡ bound hand.old }
+    ensures ran { Ran hand.old.shown
+        (reading_link hand.old.pid path.first inode) result hand.new.shown }
+{
+    look_for(hand, path.first, inode)?;
+    read_target(hand, heap, path.second)
+}
+
+// Gives what is no directory the second path too, by the first one, where that gives this object, and
+// tells about it.
 fn link_at<K: Machine>(
     hand: &mut Hand<K>,
     from: Twice,
@@ -165,12 +190,12 @@ fn link_at<K: Machine>(
         (linking hand.old.pid from.first inode to.first) result hand.new.shown }
 {
     look_for(hand, from.first, inode)?;
-    link_to(hand, from.second, to.first, to.second)
+    make_at(hand, Call::Link(from.second, to.first), to.second)
 }
 
-/// Gives a file a name in this directory too, by the path that it has, where that gives this file, and
-/// tells about it. It is `Stale`, and nothing is linked, where the path of the file or that of the
-/// directory gives another object, or none.
+/// Gives what is no directory a name in this directory too, by the path that it has, where that gives
+/// this object, and tells about it. It is `Stale`, and nothing is linked, where that path or the
+/// directory's own gives another object, or none.
 pub fn link<K: Machine>(
     hand: &mut Hand<K>,
     from: Twice,
@@ -189,7 +214,7 @@ pub fn link<K: Machine>(
     link_at(hand, from, inode, to)
 }
 
-/// Takes a name of a file away from this directory. It is `Stale`, and the name stays, where the
+/// Takes a name away from this directory, which gives no directory. It is `Stale`, and stays, where the
 /// directory's own path gives another object, or none.
 pub fn unlink<K: Machine>(
     hand: &mut Hand<K>,

@@ -1,16 +1,15 @@
 // Requests on objects that are found by their paths or their descriptors.
-ghost use Rattle.std.specs.Prelude.{◌≡◌, IfSome, None, Some, option_map};
+ghost use Rattle.std.specs.Prelude.{◌≡◌, IfSome, option_map};
 ghost use Rattle.course.specs.Hands.{bound};
 ghost use Rattle.course.specs.Course.{Ran};
 ghost use Rattle.course.specs.Courses.{by_descriptor, finding, if_found, if_listed, listing_at, nowhere};
-ghost use Rattle.course.specs.Courses.{removed, resizing, sizing};
+ghost use Rattle.course.specs.Courses.{removed};
 
 use crate::fault::Fault;
-use crate::files::{set_length, set_length_at};
 use crate::hand::Hand;
-use crate::names::{Twice, gives_none, list, look_for};
+use crate::names::{Twice, gives_none, list};
 use heap::Heap;
-use ids::{Bytes, Call, Fd, Kind, NameList, Num, Stat};
+use ids::{Bytes, Call, Fd, Kind, NameList, Num, Rights, Stat};
 use machine::Machine;
 
 /// An object, and how it is found.
@@ -26,15 +25,16 @@ pub struct Object {
     pub fd: Option<Fd>,
 }
 
-// What a directory is like to which no name leads any more.
-fn removed(inode: Num) -> Stat
-    ensures { result ≡ removed inode }
+// What is told of an object to which no name leads any more, and which is empty.
+fn removed(kind: Kind, inode: Num) -> Stat
+    ensures { result ≡ removed kind inode }
 {
     Stat {
-        kind: Kind::Dir,
+        kind,
         num: inode,
         size: 0,
         links: 0,
+        rights: Rights::first(Some(kind)),
     }
 }
 
@@ -43,8 +43,8 @@ fn nowhere(kind: Kind, inode: Num) -> Result<Stat, Fault>
     ensures { result ≡ nowhere kind inode }
 {
     match kind {
-        Kind::Dir => Ok(removed(inode)),
-        Kind::File | Kind::Pipe => Err(Fault::Stale),
+        Kind::Dir | Kind::Fifo | Kind::Socket => Ok(removed(kind, inode)),
+        Kind::File | Kind::Pipe | Kind::Link => Err(Fault::Stale),
     }
 }
 
@@ -96,7 +96,8 @@ fn if_found<K: Machine>(
 }
 
 /// What an object is like: by its path, where that leads to it still, else by its descriptor. A
-/// directory that has neither is there without a name, and empty; another object is stale.
+/// directory, a FIFO or a socket that has neither is there without a name, and empty; another object is
+/// stale.
 pub fn find<K: Machine>(hand: &mut Hand<K>, object: Object) -> Result<Stat, Fault>
     ensures bound { bound hand.new ≡ bound hand.old }
     ensures ran { Ran hand.old.shown
@@ -110,68 +111,11 @@ pub fn find<K: Machine>(hand: &mut Hand<K>, object: Object) -> Result<Stat, Faul
     } = object;
     match path {
         Some(path) => {
-            let looked = hand.stat_call(Call::Stat(path));
+            let looked = hand.stat_call(Call::Lstat(path));
             if_found(hand, kind, inode, fd, looked)
         }
         None => by_descriptor(hand, kind, inode, fd),
     }
-}
-
-// Sets a length by the path, where that gives this object.
-fn set_length_there<K: Machine>(
-    hand: &mut Hand<K>,
-    inode: Num,
-    path: Twice,
-    length: u32,
-) -> Result<(), Fault>
-    requires { path.second ≡ path.first }
-    ensures bound { bound hand.new ≡ bound hand.old }
-    ensures ran { Ran hand.old.shown
-        (sizing hand.old.pid inode None (Some path.first) length) result hand.new.shown }
-{
-    look_for(hand, path.first, inode)?;
-    set_length_at(hand, path.second, length)
-}
-
-// Sets a length by the descriptor, if there is one, else by the path.
-fn set_length_by<K: Machine>(
-    hand: &mut Hand<K>,
-    inode: Num,
-    fd: Option<Fd>,
-    path: Option<Twice>,
-    length: u32,
-) -> Result<(), Fault>
-    requires { IfSome path (λ p. p.second ≡ p.first) }
-    ensures bound { bound hand.new ≡ bound hand.old }
-    ensures ran { Ran hand.old.shown
-        (sizing hand.old.pid inode fd (option_map (λ p. p.first) path) length)
-        result hand.new.shown }
-{
-    match fd {
-        Some(fd) => set_length(hand, fd, length),
-        None => match path {
-            Some(path) => set_length_there(hand, inode, path, length),
-            None => Err(Fault::Stale),
-        },
-    }
-}
-
-/// Cuts or grows a file, by its descriptor, else by this path, where that gives it, and tells what
-/// it is like then. Where the path gives another object it is stale.
-pub fn resize<K: Machine>(
-    hand: &mut Hand<K>,
-    object: Object,
-    path: Option<Twice>,
-    length: u32,
-) -> Result<Stat, Fault>
-    requires { IfSome path (λ p. p.second ≡ p.first) }
-    ensures bound { bound hand.new ≡ bound hand.old }
-    ensures ran { Ran hand.old.shown
-        (resizing hand.old.pid object (option_map (λ p. p.first) path) length)
-        result hand.new.shown }
-{
-    set_length_by(hand, object.inode, object.fd, path, length)?;
-    find(hand, object)
 }
 
 // What comes behind the look whether a path gives a directory.
@@ -218,7 +162,7 @@ pub fn list_at<K: Machine>(
 {
     match path {
         Some(path) => {
-            let looked = hand.stat_call(Call::Stat(path.first));
+            let looked = hand.stat_call(Call::Lstat(path.first));
             if_listed(hand, heap, path.second, inode, looked)
         }
         None => Ok(NameList::new(Vec::new(heap))),

@@ -10,7 +10,8 @@ use crate::names::look_for;
 use ids::{Bytes, Num};
 use machine::Machine;
 
-/// The directory in which a name is, where that is no root. A root is never moved.
+/// The directory in which a name is. A root is never moved, and only looked at where something is made
+/// there.
 #[derive(Drop)]
 pub struct Place {
     /// The path that led to it last.

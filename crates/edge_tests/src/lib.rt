@@ -10,6 +10,8 @@ mod jobs;
 #[cfg(test)]
 mod of_device;
 #[cfg(test)]
+mod of_failures;
+#[cfg(test)]
 mod of_file_limits;
 #[cfg(test)]
 mod of_hostile;

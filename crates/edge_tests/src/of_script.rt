@@ -114,7 +114,7 @@ fn is_op(alloc: Global, heap: Heap, words: &str, op: &str) -> bool {
     }
 }
 
-static OPERATIONS: [(&str, &str); 36] = [
+static OPERATIONS: [(&str, &str); 51] = [
     (
         "open /a -",
         "Call(Open(Bytes { bytes: [47, 97] }, OpenFlags(0)))",
@@ -187,6 +187,57 @@ static OPERATIONS: [(&str, &str); 36] = [
     ("mkdir /a", "Call(Mkdir(Bytes { bytes: [47, 97] }))"),
     ("rmdir /a", "Call(Rmdir(Bytes { bytes: [47, 97] }))"),
     ("list /a", "Call(List(Bytes { bytes: [47, 97] }))"),
+    (
+        "symlink ../a /b",
+        "Call(Symlink(Bytes { bytes: [46, 46, 47, 97] }, Bytes { bytes: [47, 98] }))",
+    ),
+    (
+        "symlink \\e /b",
+        "Call(Symlink(Bytes { bytes: [] }, Bytes { bytes: [47, 98] }))",
+    ),
+    (
+        "symlink \\x00\\xff\\x20 \\e",
+        "Call(Symlink(Bytes { bytes: [0, 255, 32] }, Bytes { bytes: [] }))",
+    ),
+    ("readlink /a", "Call(Readlink(Bytes { bytes: [47, 97] }))"),
+    ("lstat /a", "Call(Lstat(Bytes { bytes: [47, 97] }))"),
+    (
+        "mknod /a fifo",
+        "Call(Mknod(Bytes { bytes: [47, 97] }, Fifo))",
+    ),
+    (
+        "mknod \\e socket",
+        "Call(Mknod(Bytes { bytes: [] }, Socket))",
+    ),
+    (
+        "chmod /a 644",
+        "Call(Chmod(Bytes { bytes: [47, 97] }, Permissions { bits: 420 }))",
+    ),
+    (
+        "chmod /a 0007",
+        "Call(Chmod(Bytes { bytes: [47, 97] }, Permissions { bits: 7 }))",
+    ),
+    (
+        "chmod \\e 7777",
+        "Call(Chmod(Bytes { bytes: [] }, Permissions { bits: 4095 }))",
+    ),
+    (
+        "fchmod 4294967295 1755",
+        "Call(Fchmod(Fd(4294967295), Permissions { bits: 1005 }))",
+    ),
+    ("fchmod 0 0", "Call(Fchmod(Fd(0), Permissions { bits: 0 }))"),
+    (
+        "chown /a 0 4294967295",
+        "Call(Chown(Bytes { bytes: [47, 97] }, NewOwner { user: Some(0), group: Some(4294967295) }))",
+    ),
+    (
+        "chown \\e - -",
+        "Call(Chown(Bytes { bytes: [] }, NewOwner { user: None, group: None }))",
+    ),
+    (
+        "fchown 0 - 7",
+        "Call(Fchown(Fd(0), NewOwner { user: None, group: Some(7) }))",
+    ),
     ("dup 0", "Call(Dup(Fd(0)))"),
     ("dup2 0 1", "Call(Dup2(Fd(0), Fd(1)))"),
     ("pipe", "Call(Pipe)"),
@@ -199,7 +250,7 @@ static OPERATIONS: [(&str, &str); 36] = [
 ];
 
 // Operations with arguments that they do not take.
-static REFUSED: [&str; 53] = [
+static REFUSED: [&str; 99] = [
     "read 0 1048577",
     "read 00 1",
     "read +0 1",
@@ -247,6 +298,52 @@ static REFUSED: [&str; 53] = [
     "dup2 0",
     "link /a",
     "link /a /b /c",
+    "symlink",
+    "symlink a",
+    "symlink  /b",
+    "symlink a ",
+    "symlink a /b /c",
+    "symlink a\\x0 /b",
+    "symlink \\ea /b",
+    "symlink a b\\",
+    "readlink",
+    "readlink /a /b",
+    "readlink \\x",
+    "lstat",
+    "lstat /a /b",
+    "mknod",
+    "mknod /a",
+    "mknod /a pipe",
+    "mknod /a FIFO",
+    "mknod fifo /a",
+    "mknod /a fifo socket",
+    "chmod",
+    "chmod /a",
+    "chmod /a ",
+    "chmod  644",
+    "chmod 644 /a",
+    "chmod /a 8",
+    "chmod /a 00000",
+    "chmod /a 10000",
+    "chmod /a -",
+    "chmod /a 0o644",
+    "chmod /a 644 0",
+    "fchmod 0",
+    "fchmod 4294967296 644",
+    "fchmod /a 644",
+    "fchmod 0 888",
+    "chown /a",
+    "chown /a 0",
+    "chown /a 0 0 0",
+    "chown  0 0",
+    "chown /a 4294967296 0",
+    "chown /a 0 4294967296",
+    "chown /a -1 0",
+    "chown /a 00 0",
+    "fchown 0 0",
+    "fchown 0 - ",
+    "fchown - 0 0",
+    "fchown 0 0 0 0",
     "pipe 0",
     "end 0",
     "abort restart",

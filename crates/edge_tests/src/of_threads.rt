@@ -42,7 +42,7 @@ static REFUSED: Expected = Expected {
 };
 
 // Runs that are not checked, and end the same however the threads take turns.
-static RUNS: [(&str, Expected); 7] = [
+static RUNS: [(&str, Expected); 8] = [
     (
         "priorities 0\n",
         Expected {
@@ -76,6 +76,19 @@ static RUNS: [(&str, Expected); 7] = [
             room: 1000,
             status: 0,
             out: "1 P1 fork -> child 2\n2 P2 fork -> child 3\n3 P3 exit -> ok\n",
+            err: "",
+        },
+    ),
+    // What a child has set is told behind what its parent has set before.
+    (
+        "priorities 0\n1 mkdir /a\n1 chmod /a 700\n1 fork\n2 chown /a 1 -\n2 stat /a\n",
+        Expected {
+            list: None,
+            limit: 100,
+            room: 1000,
+            status: 0,
+            out: "1 P1 mkdir /a -> ok\n2 P1 chmod /a 700 -> ok\n3 P1 fork -> child 2\n\
+                4 P2 chown /a 1 - -> ok\n5 P2 stat /a -> dir size 0 links 1 mode 700 owner 1 0\n",
             err: "",
         },
     ),

@@ -4,8 +4,8 @@ use crate::texts::inspect;
 use device::{Halting, Trickling};
 use heap::Heap;
 use ids::{
-    Answer, Aspect, Bytes, Call, Cause, Entry, Errno, Fd, Kind, Name, NameList, Num, Nums, Op, Pid,
-    Pids, Reply, Stat, Touch, Why,
+    Answer, Aspect, Bytes, Call, Cause, Entry, Errno, Fd, Kind, Name, NameList, Num, Nums, Op,
+    Owner, Permissions, Pid, Pids, Reply, Rights, Stat, Touch, Why,
 };
 use script::{Line, read_script};
 use std::alloc::AllocError;
@@ -49,8 +49,28 @@ static SCRIPT: &str = "priorities 0
 3 end
 3 end
 3 end
+3 symlink ../a /\\x20
+3 symlink \\e /a
+3 lstat /a
+3 lstat /b
+3 stat /c
+3 mknod /a fifo
+3 mknod /b socket
+3 open /a RDONLY
+3 end
+3 chmod /\\x20 0644
+3 chown /a 0 -
+3 fchmod 4294967295 7777
+3 fchown 0 - 4294967295
+3 stat /a
+3 lstat /a
+3 fstat 0
+3 stat /b
+3 stat /c
+3 end
 3 read 0 5
 3 pread 0 5 9223372036854775807
+3 readlink /a
 3 list /a
 4096 end
 ";
@@ -91,19 +111,54 @@ static TRANSCRIPT: &str = "1 P1 begin -> begun
 33 P3 end -> busy names read by P9
 34 P3 end -> busy front write by P9
 35 P3 end -> aborted block 1023 read by P9 restarted
-36 P3 read 0 5 -> 2 a\\x0a
-37 P3 pread 0 5 9223372036854775807 -> 0 \\e
-38 P3 list /a -> names 2 a b\\x20c
-39 P4096 end -> busy entry a write by P9 dooms P1,P4096
+36 P3 symlink ../a /\\x20 -> ok
+37 P3 symlink \\e /a -> ENOENT
+38 P3 lstat /a -> link size 4095 links 2
+39 P3 lstat /b -> fifo size 0 links 1
+40 P3 stat /c -> socket size 0 links 1
+41 P3 mknod /a fifo -> ELOOP
+42 P3 mknod /b socket -> EEXIST
+43 P3 open /a RDONLY -> ENXIO
+44 P3 end -> busy target read by P9
+45 P3 chmod /\\x20 644 -> ok
+46 P3 chown /a 0 - -> ok
+47 P3 fchmod 4294967295 7777 -> EBADF
+48 P3 fchown 0 - 4294967295 -> ok
+49 P3 stat /a -> file size 3 links 1 mode 0
+50 P3 lstat /a -> link size 1 links 1 mode 17 owner 0 5
+51 P3 fstat 0 -> pipe size 0 links 0 mode 700 owner 4294967295 0
+52 P3 stat /b -> dir size 0 links 1 owner 1 2
+53 P3 stat /c -> fifo size 0 links 1 mode 7777 owner 4294967295 4294967295
+54 P3 end -> busy rights write by P9
+55 P3 read 0 5 -> 2 a\\x0a
+56 P3 pread 0 5 9223372036854775807 -> 0 \\e
+57 P3 readlink /a -> 4 ../a
+58 P3 list /a -> names 2 a b\\x20c
+59 P4096 end -> busy entry a write by P9 dooms P1,P4096
 ";
 
-fn stat(kind: Kind, size: u32, links: u32) -> Reply {
+// A status with these rights.
+fn told(kind: Kind, size: u32, links: u32, rights: Rights) -> Reply {
     Reply::Answer(Answer::Stat(Stat {
         kind,
         num: Num(7),
         size,
         links,
+        rights,
     }))
+}
+
+// A status with the first rights of its kind.
+fn stat(kind: Kind, size: u32, links: u32) -> Reply {
+    told(kind, size, links, Rights::first(Some(kind)))
+}
+
+fn rights(bits: u16, user: u32, group: u32) -> Rights {
+    let first = Rights::first(None).permissions;
+    Rights {
+        permissions: Permissions::new(bits).unwrap_or(first),
+        owner: Owner { user, group },
+    }
 }
 
 fn cause(aspect: Aspect, write: bool) -> Cause {
@@ -114,7 +169,7 @@ fn cause(aspect: Aspect, write: bool) -> Cause {
 }
 
 // The replies that hold no memory.
-fn plain_replies() -> [Reply; 35] {
+fn plain_replies() -> [Reply; 44] {
     [
         Reply::Begun,
         Reply::Answer(Answer::Done),
@@ -157,6 +212,32 @@ fn plain_replies() -> [Reply; 35] {
             why: Why::Clash(cause(Aspect::Block(Num(1), 1023), false)),
             restarted: true,
         },
+        Reply::Answer(Answer::Done),
+        Reply::Errno(Errno::ENOENT),
+        stat(Kind::Link, 4095, 2),
+        stat(Kind::Fifo, 0, 1),
+        stat(Kind::Socket, 0, 1),
+        Reply::Errno(Errno::ELOOP),
+        Reply::Errno(Errno::EEXIST),
+        Reply::Errno(Errno::ENXIO),
+        Reply::Busy(cause(Aspect::Target(Num(1)), false)),
+    ]
+}
+
+// The replies to what sets rights, and those that tell them.
+fn replies_of_rights() -> [Reply; 10] {
+    let most = u32::MAX;
+    [
+        Reply::Answer(Answer::Done),
+        Reply::Answer(Answer::Done),
+        Reply::Errno(Errno::EBADF),
+        Reply::Answer(Answer::Done),
+        told(Kind::File, 3, 1, rights(0, 0, 0)),
+        told(Kind::Link, 1, 1, rights(0o17, 0, 5)),
+        told(Kind::Pipe, 0, 0, rights(0o700, most, 0)),
+        told(Kind::Dir, 0, 1, rights(0o755, 1, 2)),
+        told(Kind::Fifo, 0, 1, rights(0o7777, most, most)),
+        Reply::Busy(cause(Aspect::Rights(Num(1)), true)),
     ]
 }
 
@@ -168,13 +249,15 @@ fn names(heap: Heap) -> Result<NameList, AllocError> {
 }
 
 // The other replies.
-fn replies_with_memory(heap: Heap) -> Result<[Reply; 4], AllocError> {
+fn replies_with_memory(heap: Heap) -> Result<[Reply; 5], AllocError> {
     let bytes = Bytes::copy(heap, b"a\n")?;
+    let target = Bytes::copy(heap, b"../a")?;
     let names = names(heap)?;
     let entry = Aspect::Entry(Num(1), Name::copy(heap, b"a")?);
     Ok([
         Reply::Answer(Answer::Bytes(bytes)),
         Reply::Answer(Answer::Bytes(Bytes::new(Vec::new(heap)))),
+        Reply::Answer(Answer::Bytes(target)),
         Reply::Answer(Answer::Names(names)),
         Reply::Busy(cause(entry, true)),
     ])
@@ -192,6 +275,7 @@ fn entry(heap: Heap, line: Line, reply: Reply) -> Entry {
 
 fn replies(heap: Heap) -> Result<Vec<Reply, Heap>, AllocError> {
     let mut replies = Vec::from_array(heap, plain_replies())?;
+    replies.append(&mut Vec::from_array(heap, replies_of_rights())?)?;
     replies.append(&mut Vec::from_array(heap, replies_with_memory(heap)?)?)?;
     Ok(replies)
 }

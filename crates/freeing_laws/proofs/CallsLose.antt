@@ -1,14 +1,15 @@
 -- Of the edits of one call only the last loses anything.
 use Rattle.std.proofs.Common.{◌≡◌, ℕ, ℤ, pos, negsuc, ◌+ℤ◌, Bool, true, false, not, ◌&&◌, ◌||◌, if◌then◌else◌, List, [], ◌∷◌, ◌++◌, Option, Some, None, Result, Ok, Err, IfOk, nat_lt, nat_le, ◌==◌, length, min, refl}
 use Rattle.std.specs.Prelude.{⊤}
-use Rattle.model.specs.State.{A_file, A_directory, A_pipe, Kernel, ends}
-use Rattle.model.specs.Plan.{Errno, EAGAIN, EBADF, EBUSY, EEXIST, EFBIG, EINVAL, EISDIR, ENOENT, ENOTDIR, ENOTEMPTY, EPERM, EPIPE, ESPIPE, Plan, Give, given, answer, or_refuse, List_names, Read_file, Count_ends, Find_offset, Read_pipe, Fit, ◌>>=◌, refuse_if}
+use Rattle.std.specs.List.{list_any}
+use Rattle.model.specs.State.{A_file, A_directory, A_pipe, A_link, A_fifo, A_socket, Kernel, ends}
+use Rattle.model.specs.Plan.{Errno, EAGAIN, EBADF, EBUSY, EEXIST, EFBIG, EINVAL, EISDIR, ELOOP, ENXIO, ENAMETOOLONG, ENOENT, ENOTDIR, ENOTEMPTY, EPERM, EPIPE, ESPIPE, Plan, Give, given, answer, or_refuse, List_names, Read_file, Count_ends, Find_offset, Read_pipe, Fit, ◌>>=◌, refuse_if}
 use Rattle.model.specs.Paths.{is_empty, is_below}
-use Rattle.model.specs.Walks.{Last, Place, parsed, walk, last_of, is_directory}
-use Rattle.model.specs.Changes.{Edit, Unname_file, Unname_directory, Move, Share_slot, Clear_slot, End_process, Make_directory, Make_file, Name_file, Put_bytes, Cut, Take, Append, Set_offset, Open_inode, Make_pipe, New_process}
-use Rattle.model.specs.Calls.{Call, Open, Close, Read, Pread, Write, Pwrite, Lseek, Ftruncate, Truncate, Stat, Fstat, Link, Unlink, Rename, Mkdir, Rmdir, List_directory, Dup, Dup2, Open_pipe, Fork, Exit, OpenFlags, Slot, Own, own}
+use Rattle.model.specs.Walks.{Last, Place, parsed, walk, last_of, is_directory, is_link}
+use Rattle.model.specs.Changes.{Edit, Unname_file, Unname_directory, Move, Share_slot, Clear_slot, End_process, Make_directory, Make_file, Make_fixed, Name_file, Put_bytes, Cut, Take, Append, Set_offset, Set_rights, Open_inode, Make_pipe, New_process}
+use Rattle.model.specs.Calls.{Call, Open, Close, Read, Pread, Write, Pwrite, Lseek, Ftruncate, Truncate, Stat, Fstat, Link, Unlink, Rename, Mkdir, Rmdir, List_directory, Symlink, Readlink, Lstat, Mknod, Chmod, Chown, Fchmod, Fchown, Dup, Dup2, Open_pipe, Fork, Exit, OpenFlags, Slot, Own, own}
 use Rattle.ids.specs.Flags.{is_reading, is_writing, is_creating, is_exclusive, is_truncating}
-use Rattle.model.specs.Plans.{Change, is_pipe, most_moved, status, slot, opened, cut_to, read_pipe, read_some, place_to_write, write_some, offset_named, sought, base, replaced_by_name, moved, absent, duplicated, piped, forked, first_of_free, free, plan}
+use Rattle.model.specs.Plans.{Change, target_limit, is_special, is_pipe, most_moved, status, slot, opened, cut_to, read_pipe, read_some, place_to_write, write_some, offset_named, sought, base, replaced_by_name, moved, absent, duplicated, piped, forked, first_of_free, free, plan}
 use Rattle.model.specs.Steps.{edits, edits_of, outcome}
 use Rattle.call_laws.proofs.Laws.{after_bind, whatever, weaken, either_given}
 use Rattle.freeing_laws.specs.Sweep.{nothing, lost_by, loses}
@@ -16,12 +17,14 @@ use Rattle.freeing_laws.specs.Sweep.{nothing, lost_by, loses}
 pub loses_nothing : (k : Kernel) (e : Edit) → loses e ≡ false → lost_by k e ≡ nothing
 loses_nothing k (Make_directory d x i) lasts = refl
 loses_nothing k (Make_file d x i) lasts = refl
+loses_nothing k (Make_fixed d x fixed i) lasts = refl
 loses_nothing k (Name_file d x n) lasts = refl
 loses_nothing k (Put_bytes n place bytes before) lasts = refl
 loses_nothing k (Cut n before after) lasts = refl
 loses_nothing k (Take p count) lasts = refl
 loses_nothing k (Append p bytes) lasts = refl
 loses_nothing k (Set_offset d place) lasts = refl
+loses_nothing k (Set_rights n rights) lasts = refl
 loses_nothing k (Open_inode i inode how q f) lasts = refl
 loses_nothing k (Make_pipe i q f g) lasts = refl
 loses_nothing k (New_process child parent pipes) lasts = refl
@@ -50,6 +53,9 @@ module _ (k : Kernel) where
   status_fine (n, Some A_file) = tt
   status_fine (n, Some A_directory) = tt
   status_fine (n, Some A_pipe) = tt
+  status_fine (n, Some A_link) = tt
+  status_fine (n, Some A_fifo) = tt
+  status_fine (n, Some A_socket) = tt
 
   cut_fine : (b : Bool) (n : ℕ) → IfOk (given k (if b then cut_to n 0 else Give [])) (λ es. (last : Edit) → OnlyLastLoses (es ++ last ∷ []))
   cut_fine true n = λ last. (refl, tt)
@@ -57,8 +63,8 @@ module _ (k : Kernel) where
 
   opened_fine : (me : Own) (flags : OpenFlags) (f : ℕ) (at : Last) (o : Option Place) → IfOk (given k (opened me flags f at o)) Fine
   opened_fine me flags f at None = pass (refuse_if (not (is_creating flags)) ENOENT) _ (λ _. (refl, tt))
-  opened_fine me flags f at (Some place) = pass (refuse_if (is_creating flags && is_exclusive flags) EEXIST) _ (λ _. pass (refuse_if (is_directory place) EISDIR) _ (λ _.
-      after_bind k Fine (if is_truncating flags then cut_to place.0 0 else Give []) _ (weaken (given k (if is_truncating flags then cut_to place.0 0 else Give [])) (cut_fine (is_truncating flags) place.0) (λ es h. h _))))
+  opened_fine me flags f at (Some place) = pass (refuse_if (is_creating flags && is_exclusive flags) EEXIST) _ (λ _. pass (refuse_if (is_directory place) EISDIR) _ (λ _. pass (refuse_if (is_link place) ELOOP) _ (λ _. pass (refuse_if (is_special place) ENXIO) _ (λ _.
+      after_bind k Fine (if is_truncating flags then cut_to place.0 0 else Give []) _ (weaken (given k (if is_truncating flags then cut_to place.0 0 else Give [])) (cut_fine (is_truncating flags) place.0) (λ es h. h _))))))
 
   read_pipe_fine : (p : ℕ) (bytes : List ℕ) → IfOk (given k (read_pipe p bytes)) Fine
   read_pipe_fine p [] = pass (refuse_if (nat_lt 0 (ends k p (λ d. d.writing))) EAGAIN) _ (λ _. tt)
@@ -113,8 +119,8 @@ module _ (k : Kernel) where
       pass (refuse_if (nat_le me.largest at) EFBIG) _ (λ _. tt))))))
   plan_fine me (Lseek f move whence) = pass (slot me f) _ (λ it. pass (refuse_if (is_pipe it.kind) ESPIPE) _ (λ _. pass (base it whence) _ (λ place. sought_fine me.largest it (pos place +ℤ move))))
   plan_fine me (Ftruncate f len) = pass (slot me f) _ (λ it. pass (refuse_if (not it.writing) EBADF) _ (λ _. pass (refuse_if (is_pipe it.kind) EINVAL) _ (λ _. pass (refuse_if (nat_lt me.largest len) EFBIG) _ (λ _. tt))))
-  plan_fine me (Truncate path len) = pass (parsed path) _ (λ names. pass (walk (me.root, Some A_directory) names) _ (λ place. pass (refuse_if (is_directory place) EISDIR) _ (λ _. pass (refuse_if (nat_lt me.largest len) EFBIG) _ (λ _. tt))))
-  plan_fine me (Stat path) = pass (parsed path) _ (λ names. pass (walk (me.root, Some A_directory) names) _ (λ place. status_fine place))
+  plan_fine me (Truncate path len) = pass (parsed path) _ (λ names. pass (walk (me.root, Some A_directory) names) _ (λ place. pass (refuse_if (is_directory place) EISDIR) _ (λ _. pass (refuse_if (is_link place) ELOOP) _ (λ _. pass (refuse_if (is_special place) EINVAL) _ (λ _. pass (refuse_if (nat_lt me.largest len) EFBIG) _ (λ _. tt))))))
+  plan_fine me (Stat path) = pass (parsed path) _ (λ names. pass (walk (me.root, Some A_directory) names) _ (λ place. pass (refuse_if (is_link place) ELOOP) _ (λ _. status_fine place)))
   plan_fine me (Fstat f) = pass (slot me f) _ (λ it. status_fine (it.inode, it.kind))
   plan_fine me (Link old path) = pass (parsed old) _ (λ from. pass (parsed path) _ (λ to. pass (walk (me.root, Some A_directory) from) _ (λ what. pass (refuse_if (is_directory what) EPERM) _ (λ _. pass (last_of me.root EEXIST to) _ (λ at. pass (absent at.found) _ (λ _. tt))))))
   plan_fine me (Unlink path) = pass (parsed path) _ (λ names. pass (last_of me.root EPERM names) _ (λ at. pass (or_refuse ENOENT at.found) _ (λ what. pass (refuse_if (is_directory what) EPERM) _ (λ _. tt))))
@@ -123,7 +129,16 @@ module _ (k : Kernel) where
   plan_fine me (Mkdir path) = pass (parsed path) _ (λ names. pass (last_of me.root EEXIST names) _ (λ at. pass (absent at.found) _ (λ _. tt)))
   plan_fine me (Rmdir path) = pass (parsed path) _ (λ names. pass (last_of me.root EBUSY names) _ (λ at. pass (or_refuse ENOENT at.found) _ (λ what. pass (refuse_if (not (is_directory what)) ENOTDIR) _ (λ _.
       pass (refuse_if (not (is_empty (answer k (List_names what.0)))) ENOTEMPTY) _ (λ _. tt)))))
-  plan_fine me (List_directory path) = pass (parsed path) _ (λ names. pass (walk (me.root, Some A_directory) names) _ (λ place. pass (refuse_if (not (is_directory place)) ENOTDIR) _ (λ _. tt)))
+  plan_fine me (List_directory path) = pass (parsed path) _ (λ names. pass (walk (me.root, Some A_directory) names) _ (λ place. pass (refuse_if (is_link place) ELOOP) _ (λ _. pass (refuse_if (not (is_directory place)) ENOTDIR) _ (λ _. tt))))
+  plan_fine me (Symlink target path) = pass (refuse_if (is_empty target) ENOENT) _ (λ _. pass (refuse_if (nat_lt target_limit (length target)) ENAMETOOLONG) _ (λ _. pass (refuse_if (list_any (λ b. b == 0) target) EINVAL) _ (λ _.
+      pass (parsed path) _ (λ names. pass (last_of me.root EEXIST names) _ (λ at. pass (absent at.found) _ (λ _. tt))))))
+  plan_fine me (Readlink path) = pass (parsed path) _ (λ names. pass (walk (me.root, Some A_directory) names) _ (λ place. pass (refuse_if (not (is_link place)) EINVAL) _ (λ _. tt)))
+  plan_fine me (Lstat path) = pass (parsed path) _ (λ names. pass (walk (me.root, Some A_directory) names) _ (λ place. status_fine place))
+  plan_fine me (Mknod path special) = pass (parsed path) _ (λ names. pass (last_of me.root EEXIST names) _ (λ at. pass (absent at.found) _ (λ _. tt)))
+  plan_fine me (Chmod path permissions) = pass (parsed path) _ (λ names. pass (walk (me.root, Some A_directory) names) _ (λ place. pass (refuse_if (is_link place) ELOOP) _ (λ _. tt)))
+  plan_fine me (Chown path owner) = pass (parsed path) _ (λ names. pass (walk (me.root, Some A_directory) names) _ (λ place. tt))
+  plan_fine me (Fchmod f permissions) = pass (slot me f) _ (λ it. tt)
+  plan_fine me (Fchown f owner) = pass (slot me f) _ (λ it. tt)
   plan_fine me (Dup f) = pass (slot me f) _ (λ it. dup_fine me it (free me))
   plan_fine me (Dup2 f g) = pass (slot me f) _ (λ it. pass (refuse_if (nat_lt 63 g) EBADF) _ (λ _. either_given k Fine (f == g) _ _ (λ _. tt) (λ _. tt)))
   plan_fine me Open_pipe = pipe_fine me (free me)

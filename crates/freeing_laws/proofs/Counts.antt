@@ -1,8 +1,8 @@
 -- By how much each edit changes the counts.
 use Rattle.std.proofs.Common.{◌≡◌, ◌≢◌, ℕ, ◌+◌, ◌==◌, Bool, cond, ◌&&◌, List, Option, [], ◌∷◌, ◌++◌, drop, Some, None, refl, sym, ap, ◌∙◌, arith, nat_cmp}
 use Rattle.model.specs.FiniteMap.{FinMap, get, empty, insert, remove, values}
-use Rattle.model.specs.State.{Name, name_cmp, A_directory, A_pipe, Kernel, Inode, File, Directory, Pipe, Description, Process, kind, names_of, file_of, pipe_of, kind_of, links, ends, is_end}
-use Rattle.model.specs.Changes.{Edit, Made, number, Make_directory, Make_file, Name_file, Unname_file, Unname_directory, Move, Put_bytes, Cut, Take, Append, Set_offset, Open_inode, Make_pipe, Share_slot, Clear_slot, New_process, End_process, Mode, to_read, to_write, applied, process_of, set_inode, set_name, clear_name, at_offset, at_start, open_at, set_offset, set_process, without_slot, sized, written, holders, openings}
+use Rattle.model.specs.State.{Name, name_cmp, A_directory, A_pipe, Kernel, Inode, File, Directory, Pipe, Fixed, Description, Process, Rights, kind, names_of, file_of, pipe_of, kind_of, links, ends, is_end}
+use Rattle.model.specs.Changes.{Edit, Made, number, Make_directory, Make_file, Make_fixed, Name_file, Unname_file, Unname_directory, Move, Put_bytes, Cut, Take, Append, Set_offset, Set_rights, Open_inode, Make_pipe, Share_slot, Clear_slot, New_process, End_process, Mode, to_read, to_write, applied, process_of, set_inode, set_name, clear_name, at_offset, at_start, open_at, set_offset, set_rights, set_process, without_slot, sized, written, holders, openings}
 use Rattle.model.proofs.Laws.{get_same, get_other}
 use Rattle.call_laws.specs.Fits.{Fits, CanBeReplaced, CanMove, CanPipe, IsUnused, table_of}
 use Rattle.model.specs.Changes.{Replaced, Over_nothing, Over_file, Over_directory, inode_replaced}
@@ -216,6 +216,32 @@ offset_counts chosen k d place it is =
       ends = λ p mode is_mode. let same : ends (set_offset d place (get k.descriptions d) k) p mode ≡ ends k p mode = ap (λ s. ends s p mode) there ∙ ends_unmoved k d place it is p mode (is_mode place it) in omega arith;
     }
 
+-- rights are in no count
+rights_links : (k : Kernel) (n : ℕ) (rights : Rights) (m : ℕ) → links (set_rights n rights k) m ≡ links k m
+unfolding links
+rights_links k n rights m = refl
+
+rights_openings : (k : Kernel) (n : ℕ) (rights : Rights) (m : ℕ) → openings (set_rights n rights k) m ≡ openings k m
+unfolding openings
+rights_openings k n rights m = refl
+
+rights_holders : (k : Kernel) (n : ℕ) (rights : Rights) (d : ℕ) → holders (set_rights n rights k) d ≡ holders k d
+unfolding holders
+rights_holders k n rights d = refl
+
+rights_ends : (k : Kernel) (n : ℕ) (rights : Rights) (p : ℕ) (mode : Description → Bool) → ends (set_rights n rights k) p mode ≡ ends k p mode
+unfolding ends
+rights_ends k n rights p mode = refl
+
+rights_counts : (chosen : List ℕ) (k : Kernel) (n : ℕ) (rights : Rights) → EditCounts chosen k (Set_rights n rights)
+unfolding applied
+rights_counts chosen k n rights = record {
+  links = λ m. ap (λ c. c + 0) (rights_links k n rights m);
+  openings = λ m. let same : openings (set_rights n rights k) m ≡ openings k m = rights_openings k n rights m in omega arith;
+  holders = λ d. let same : holders (set_rights n rights k) d ≡ holders k d = rights_holders k n rights d in omega arith;
+  ends = λ p mode _. let same : ends (set_rights n rights k) p mode ≡ ends k p mode = rights_ends k n rights p mode in omega arith;
+}
+
 -- how many processes were made is in no count
 forked_holders : (k : Kernel) (child parent d : ℕ) → holders (set_process child (process_of k parent) k) d ≡ holders k d + times d (values (table_of k parent))
     → holders (with_tables k k.descriptions (insert k.processes child (process_of k parent)) child) d + times d [] ≡ holders k d + times d (values (table_of k parent))
@@ -233,6 +259,8 @@ counts_change chosen k (Make_directory d x i) f = by_inodes chosen k (Make_direc
     (made_links k d x (number chosen (Made i)) (Directory empty) f.1.inode (is_new k _ (Directory empty) f.1.inode refl refl refl) f.0.parent.directory f.0.free)
 counts_change chosen k (Make_file d x i) f = by_inodes chosen k (Make_file d x i) _ refl refl refl refl
     (made_links k d x (number chosen (Made i)) (File []) f.1.inode (is_new k _ (File []) f.1.inode refl refl refl) f.0.parent.directory f.0.free)
+counts_change chosen k (Make_fixed d x fixed i) f = by_inodes chosen k (Make_fixed d x fixed i) _ refl refl refl refl
+    (made_links k d x (number chosen (Made i)) (Fixed fixed) f.1.inode (is_new k _ (Fixed fixed) f.1.inode refl refl refl) f.0.parent.directory f.0.free)
 counts_change chosen k (Name_file d x n) f = by_inodes chosen k (Name_file d x n) _ refl refl refl refl (named_links k d x n f.0.parent.directory f.0.free)
 counts_change chosen k (Unname_file d x n) f = by_inodes chosen k (Unname_file d x n) _ refl refl refl refl (unnamed_links k d x n f.parent.directory f.gives)
 counts_change chosen k (Unname_directory d x n) f = by_inodes chosen k (Unname_directory d x n) _ refl refl refl refl (unnamed_links k d x n f.0.parent.directory f.0.gives)
@@ -242,6 +270,7 @@ counts_change chosen k (Cut n before after) f = by_inodes chosen k (Cut n before
 counts_change chosen k (Take p count) f = by_inodes chosen k (Take p count) _ refl refl refl refl (bytes_links k p (Pipe (drop count (pipe_of k p))) (has_bytes k p _ (sym f.0) refl (no_names_pipe _ f.0)))
 counts_change chosen k (Append p bytes) f = by_inodes chosen k (Append p bytes) _ refl refl refl refl (bytes_links k p (Pipe (pipe_of k p ++ bytes)) (has_bytes k p _ (sym f.0) refl (no_names_pipe _ f.0)))
 counts_change chosen k (Set_offset d place) f = offset_counts chosen k d place f.0 f.1
+counts_change chosen k (Set_rights n rights) f = rights_counts chosen k n rights
 counts_change chosen k (Open_inode i inode how q f) can = open_counts chosen k (Open_inode i inode how q f) (number chosen (Made i)) (number chosen inode) how q f refl refl refl refl refl refl can.unused can.slot.free
 counts_change chosen k (Make_pipe i q f g) can = pipe_counts chosen k i q f g can
 counts_change chosen k (Share_slot q f d pipes) can = by_processes chosen k (Share_slot q f d pipes) _ k.made refl refl refl refl (holders_shared k q f d) (ends_shared k q f d)

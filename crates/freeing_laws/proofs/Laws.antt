@@ -6,12 +6,12 @@ use Rattle.model.specs.Changes.{Unname_file, Unname_directory, Move, openings, i
 use Rattle.model.specs.FiniteMap.{get}
 use Rattle.model.specs.Steps.{edits}
 use Rattle.call_laws.specs.WellFormed.{CanBeOpened, WellFormed}
-use Rattle.call_laws.proofs.Laws.{sum-zero, all-mapped, get_retained, not_counted, either_of, reached, get_tidy, well_stays, all_well, well_tidy, nowhere_tidy, alike_tidied, tidied_alike, stays_alike, alive_tidy, fits, calls_are_lawful_lem}
+use Rattle.call_laws.proofs.Laws.{sum-zero, all-mapped, get_retained, not_counted, either_of, reached, get_tidy, well_stays, all_well, well_tidy, nowhere_tidy, alike_tidied, tidied_alike, stays_alike, alive_tidy, unset, fits, calls_are_lawful_lem}
 use Rattle.call_laws.specs.CallLaws.{IsReady, changed}
 use Rattle.call_laws.specs.Fits.{Fits, FitsAll}
 use Rattle.freeing_laws.specs.Counts.{named, unnamed, opened, EditCounts, times}
 use Rattle.model.specs.Effects.{Effect, all_done}
-use Rattle.freeing_laws.specs.Sweep.{loses, Lost, AllFit, lost_along, nothing, both, lost_by, all_lost, swept, freed, all_freed, FitsFreed, MadeCall, called, all_called, all_changed, AreReady, IsTidied, SweepIsTidy}
+use Rattle.freeing_laws.specs.Sweep.{loses, Lost, AllFit, lost_along, nothing, both, lost_by, all_lost, swept, freed, all_freed, FitsFreed, MadeCall, called, all_called, all_changed, AreReady, AreSet, IsTidied, SweepIsTidy}
 use Rattle.freeing_laws.proofs.Times.{Has, times_append, has_left}
 use Rattle.freeing_laws.proofs.Freeing.{Covers, unreached_bare, parents_freed, covered_is_tidy}
 use Rattle.freeing_laws.proofs.Counts.{counts_change}
@@ -20,6 +20,10 @@ use Rattle.freeing_laws.proofs.CallsLose.{OnlyLastLoses, loses_nothing, only_las
 use Rattle.freeing_laws.proofs.Turns.{description_unseen, inode_unseen, turned_is_tidy}
 
 -- what the crates above cite besides
+
+-- rights are set of inodes that are there
+are_set : (k : Kernel) → WellFormed k → AreSet k
+are_set k well n none = unset k n well none
 
 -- longer lists cover too
 wider : (k : Kernel) (lost more : Lost) → ((d : ℕ) → Has lost.descriptions d → Has more.descriptions d) → ((n : ℕ) → Has lost.inodes n → Has more.inodes n) → Covers lost k → Covers more k
@@ -63,10 +67,10 @@ all_cover chosen (e ∷ es) k lost f covers =
     (all_cover chosen es (applied chosen e k) (both lost now) f.1 (one_covers chosen k e lost f.0 covers))
 
 one : (chosen : List ℕ) (k : Kernel) (e : Edit) → IsTidied k → Fits chosen k e → freed chosen e k ≡ tidy (applied chosen e k)
-one chosen k e t f = covered_is_tidy (lost_by k e) (applied chosen e k) (well_stays chosen k e t.well f).parents (one_covers chosen k e nothing f (nothing_lost k t.tidied))
+one chosen k e t f = covered_is_tidy (lost_by k e) (applied chosen e k) (well_stays chosen k e t.well f).parents (are_set (applied chosen e k) (well_stays chosen k e t.well f)) (one_covers chosen k e nothing f (nothing_lost k t.tidied))
 
 in_a_row : (chosen : List ℕ) (k : Kernel) (es : List Edit) → IsTidied k → FitsAll chosen k es → swept (all_lost chosen es k) (all_applied chosen es k) ≡ tidy (all_applied chosen es k)
-in_a_row chosen k es t f = covered_is_tidy (all_lost chosen es k) (all_applied chosen es k) (all_well chosen es k t.well f).parents (all_cover chosen es k nothing f (nothing_lost k t.tidied))
+in_a_row chosen k es t f = covered_is_tidy (all_lost chosen es k) (all_applied chosen es k) (all_well chosen es k t.well f).parents (are_set (all_applied chosen es k) (all_well chosen es k t.well f)) (all_cover chosen es k nothing f (nothing_lost k t.tidied))
 
 effects_cover : (fs : List Effect) (k : Kernel) (lost : Lost) → AllFit fs k → Covers lost k → Covers (both lost (lost_along fs k)) (all_done fs k)
 effects_cover [] k lost f covers = wider k lost (both lost nothing) (λ d has. has_left d lost.descriptions [] has) (λ n has. has_left n lost.inodes [] has) covers
@@ -85,7 +89,7 @@ effects_well (e ∷ fs) k well f = effects_well fs (all_applied e.chosen e.edits
 at_end : (k : Kernel) (fs : List Effect) (more : Lost) → IsTidied k → AllFit fs k → swept (both (lost_along fs k) more) (all_done fs k) ≡ tidy (all_done fs k)
 at_end k fs more t f =
     let lost : Lost = lost_along fs k in
-    covered_is_tidy (both lost more) (all_done fs k) (effects_well fs k t.well f).parents
+    covered_is_tidy (both lost more) (all_done fs k) (effects_well fs k t.well f).parents (are_set (all_done fs k) (effects_well fs k t.well f))
     (wider (all_done fs k) lost (both lost more) (λ d has. has_left d lost.descriptions more.descriptions has) (λ n has. has_left n lost.inodes more.inodes has) (effects_cover fs k nothing f (nothing_lost k t.tidied)))
 
 tidy_twice : (k : Kernel) → WellFormed k → tidy (tidy k) ≡ tidy k
@@ -181,7 +185,7 @@ directory_goes chosen k e n well f is has = by_test (is_reached after n) refl
 pub sweep_is_tidy_lem : SweepIsTidy
 sweep_is_tidy_lem = record {
   one = one;
-  in_turn = λ chosen k e t f. turned_is_tidy chosen k e (counts_change chosen k e f) (edit_comes chosen k e f (counts_change chosen k e f)) (well_stays chosen k e t.well f).parents (nothing_lost k t.tidied);
+  in_turn = λ chosen k e t f. turned_is_tidy chosen k e (counts_change chosen k e f) (edit_comes chosen k e f (counts_change chosen k e f)) (well_stays chosen k e t.well f).parents (are_set (applied chosen e k) (well_stays chosen k e t.well f)) (nothing_lost k t.tidied);
   none = λ chosen k e t f lasts. sym (one chosen k e t f) ∙ keeps_all chosen k e lasts;
   directory = directory_goes;
   at_end = at_end;
@@ -192,6 +196,7 @@ sweep_is_tidy_lem = record {
   inode_unseen = λ k n well. inode_unseen k n well.parents;
   well = effects_well;
   parented = λ k well. well.parents;
+  set = are_set;
   bare = unreached_bare;
   turn = parents_freed;
   stays = λ chosen k e t f. subst IsTidied (sym (one chosen k e t f)) (is_tidied (applied chosen e k) (well_stays chosen k e t.well f));

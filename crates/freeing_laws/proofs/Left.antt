@@ -79,7 +79,7 @@ effects_link (e ∷ fs) k f n =
 
 pub left_is_tidy_lem : LeftIsTidy
 left_is_tidy_lem = record {
-  closed = λ ds ns k left. all_turned (tidy k) ds ns k (record { tidied = refl; parents = left.parents; descriptions = left.descriptions; inodes = left.inodes });
+  closed = λ ds ns k left. all_turned (tidy k) ds ns k (record { tidied = refl; parents = left.parents; set = left.rights; descriptions = left.descriptions; inodes = left.inodes });
   held = held;
   holds = λ k pid f d is. held_by k pid f d is.gives;
   inodes = λ k fs t f. effects_lead fs k [] f (all_led k (nothing_lost k t.tidied));

@@ -3,8 +3,8 @@ use Rattle.std.proofs.Common.{◌≡◌, ◌≢◌, ℕ, ◌+◌, ◌<◌, ◌==
 use Rattle.std.specs.Cmp.{nat_cmp_total}
 use Rattle.std.proofs.lemmas.Bool.{cases_eq}
 use Rattle.model.specs.FiniteMap.{FinMap, get, empty, insert}
-use Rattle.model.specs.State.{Kind, A_directory, Kernel, Inode, File, Directory, Pipe, Description, Process, kind, mapped, kind_of, links}
-use Rattle.model.specs.Changes.{Edit, Made, number, Make_directory, Make_file, Name_file, Unname_file, Unname_directory, Move, Put_bytes, Cut, Take, Append, Set_offset, Open_inode, Make_pipe, Share_slot, Clear_slot, New_process, End_process, Mode, to_read, to_write, applied, set_inode, at_offset, at_start, open_at, holders, openings, is_held, without_descriptions}
+use Rattle.model.specs.State.{Kind, A_directory, Kernel, Inode, File, Directory, Pipe, Fixed, Description, Process, kind, mapped, kind_of, links}
+use Rattle.model.specs.Changes.{Edit, Made, number, Make_directory, Make_file, Make_fixed, Name_file, Unname_file, Unname_directory, Move, Put_bytes, Cut, Take, Append, Set_offset, Set_rights, Open_inode, Make_pipe, Share_slot, Clear_slot, New_process, End_process, Mode, to_read, to_write, applied, set_inode, at_offset, at_start, open_at, holders, openings, is_held, without_descriptions}
 use Rattle.model.proofs.Laws.{get_same, get_other}
 use Rattle.call_laws.specs.Fits.{Fits}
 use Rattle.call_laws.proofs.Laws.{one_some, not_none, some_same, stays_inserted, retained_some, some_part, Part, with_offset, set_there, with_tables, pipe_at, reached, either_of, rooted_reached, open_reached}
@@ -179,6 +179,7 @@ pub edit_comes : (chosen : List ℕ) (k : Kernel) (e : Edit) → Fits chosen k e
 unfolding applied
 edit_comes chosen k (Make_directory d x i) f counts = let n : ℕ = number chosen (Made i) in made_comes k d n (Directory empty) _ (there_by_kind k d A_directory f.0.parent.directory) (more_than _ (links k n) (times n (n ∷ [])) (counts.links n) (has_first n []))
 edit_comes chosen k (Make_file d x i) f counts = let n : ℕ = number chosen (Made i) in made_comes k d n (File []) _ (there_by_kind k d A_directory f.0.parent.directory) (more_than _ (links k n) (times n (n ∷ [])) (counts.links n) (has_first n []))
+edit_comes chosen k (Make_fixed d x fixed i) f counts = let n : ℕ = number chosen (Made i) in made_comes k d n (Fixed fixed) _ (there_by_kind k d A_directory f.0.parent.directory) (more_than _ (links k n) (times n (n ∷ [])) (counts.links n) (has_first n []))
 edit_comes chosen k (Name_file d x n) f counts = inode_comes k d _ (there_by_kind k d A_directory f.0.parent.directory)
 edit_comes chosen k (Unname_file d x n) f counts = inode_comes k d _ (there_by_kind k d A_directory f.parent.directory)
 edit_comes chosen k (Unname_directory d x n) f counts = inode_comes k d _ (there_by_kind k d A_directory f.0.parent.directory)
@@ -188,6 +189,7 @@ edit_comes chosen k (Cut n before after) f counts = inode_comes k n _ (there_by_
 edit_comes chosen k (Take p count) f counts = inode_comes k p _ (there_by_kind k p _ f.0)
 edit_comes chosen k (Append p bytes) f counts = inode_comes k p _ (there_by_kind k p _ f.0)
 edit_comes chosen k (Set_offset d place) f counts = subst (Comes k) (sym (set_there k d place f.0 f.1)) (offset_comes k d place f.0 f.1)
+edit_comes chosen k (Set_rights n rights) f counts = record { root = refl; inodes = λ t there. inl there; descriptions = λ d there. inl there; opens = λ d it is. (it, is, refl) }
 edit_comes chosen k (Open_inode i inode how q f) can counts = let d : ℕ = number chosen (Made i) in open_comes k d (number chosen inode) how q f can.unused.description (more_than _ (holders k d) (times d (d ∷ [])) (counts.holders d) (has_first d []))
 edit_comes chosen k (Make_pipe i q f g) can counts =
     let d : ℕ = number chosen (Made (i + 1)) in

@@ -149,8 +149,8 @@ openings_change_lem = record {
   goes = fewer_openings;
   by_descriptions = by_descriptions;
   by_processes = by_processes;
-  openings_apart = λ k root inodes processes made n. by_descriptions k (record k { root = root; inodes = inodes; processes = processes; made = made }) refl n;
-  holders_apart = λ k root inodes descriptions made d. by_processes k (record k { root = root; inodes = inodes; descriptions = descriptions; made = made }) refl d;
+  openings_apart = λ k root inodes rights processes made n. by_descriptions k (record k { root = root; inodes = inodes; rights = rights; processes = processes; made = made }) refl n;
+  holders_apart = λ k root inodes rights descriptions made d. by_processes k (record k { root = root; inodes = inodes; rights = rights; descriptions = descriptions; made = made }) refl d;
   most_openings = most_openings;
   most_holders = most_holders;
   tables = tables;

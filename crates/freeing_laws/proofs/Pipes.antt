@@ -4,8 +4,8 @@ use Rattle.std.proofs.lemmas.Bool.{cases_eq, false≢true}
 use Rattle.std.proofs.lemmas.List.Sums.{sum_by-cons}
 use Rattle.model.specs.FiniteMap.{FinMap, get, values, insert, empty}
 use Rattle.model.specs.Limits.{capacity}
-use Rattle.model.specs.State.{A_file, A_pipe, Description, Directory, File, Inode, Kernel, Kind, Pipe, Process, ends, is_end, kind, kind_of, mapped, pipe_of, pipe_of_inode}
-use Rattle.model.specs.Changes.{Edit, Made, Make_directory, Make_file, Name_file, Unname_file, Unname_directory, Move, Put_bytes, Cut, Take, Append, Set_offset, Open_inode, Make_pipe, Share_slot, Clear_slot, New_process, End_process, all_applied, applied, at_offset, at_start, clear_name, holders, number, openings, set_inode, to_read, to_write}
+use Rattle.model.specs.State.{A_file, A_pipe, Description, Directory, File, Fixed, Inode, Kernel, Kind, Pipe, Process, ends, is_end, kind, kind_of, mapped, pipe_of, pipe_of_inode}
+use Rattle.model.specs.Changes.{Edit, Made, Make_directory, Make_file, Make_fixed, Name_file, Unname_file, Unname_directory, Move, Put_bytes, Cut, Take, Append, Set_offset, Set_rights, Open_inode, Make_pipe, Share_slot, Clear_slot, New_process, End_process, all_applied, applied, at_offset, at_start, clear_name, holders, number, openings, set_inode, to_read, to_write}
 use Rattle.model.specs.Effects.{Effect, all_done}
 use Rattle.model.proofs.Laws.{get_same, get_other}
 use Rattle.call_laws.specs.Fits.{Fits, FitsAll}
@@ -71,6 +71,7 @@ keeps : (chosen : List ℕ) (k : Kernel) (e : Edit) → Fits chosen k e → (p r
 unfolding applied
 keeps chosen k (Make_directory d x i) f p r w is pair = pair
 keeps chosen k (Make_file d x i) f p r w is pair = pair
+keeps chosen k (Make_fixed d x fixed i) f p r w is pair = pair
 keeps chosen k (Name_file d x n) f p r w is pair = pair
 keeps chosen k (Unname_file d x n) f p r w is pair = pair
 keeps chosen k (Unname_directory d x n) f p r w is pair = pair
@@ -82,6 +83,7 @@ keeps chosen k (Append q bytes) f p r w is pair = pair
 keeps chosen k (Set_offset d place) f p r w is pair =
     subst (λ (k : Kernel). ArePair k.descriptions p r w) (sym (set_there k d place f.0 f.1))
     (pair_inserted k.descriptions p r w d (at_offset place f.0) (λ h. pair.reads d (ap (is_end reads p) f.1 ∙ h)) (λ h. pair.writes d (ap (is_end writes p) f.1 ∙ h)) (λ h. pair.either d f.0 f.1 h) pair)
+keeps chosen k (Set_rights n rights) f p r w is pair = pair
 keeps chosen k (Open_inode i inode how q s) can p r w is pair =
     elsewhere k.descriptions p r w (number chosen (Made i)) (at_start (number chosen inode) how) (other_kind k (number chosen inode) p A_file can.kind is (λ h. absurd cc)) pair
 keeps chosen k (Make_pipe i q f g) can p r w is pair =
@@ -214,6 +216,7 @@ one_short : (chosen : List ℕ) (k : Kernel) (e : Edit) → Fits chosen k e → 
 unfolding applied
 one_short chosen k (Make_directory d x i) f short = set_short (set_inode (number chosen (Made i)) (Directory empty) k) d _ (no_bytes k) (set_short k (number chosen (Made i)) (Directory empty) (no_bytes k) short)
 one_short chosen k (Make_file d x i) f short = set_short (set_inode (number chosen (Made i)) (File []) k) d _ (no_bytes k) (set_short k (number chosen (Made i)) (File []) (no_bytes k) short)
+one_short chosen k (Make_fixed d x fixed i) f short = set_short (set_inode (number chosen (Made i)) (Fixed fixed) k) d _ (no_bytes k) (set_short k (number chosen (Made i)) (Fixed fixed) (no_bytes k) short)
 one_short chosen k (Name_file d x n) f short = set_short k d _ (no_bytes k) short
 one_short chosen k (Unname_file d x n) f short = set_short k d _ (no_bytes k) short
 one_short chosen k (Unname_directory d x n) f short = set_short k d _ (no_bytes k) short
@@ -225,6 +228,7 @@ one_short chosen k (Take p count) f short =
 one_short chosen k (Append p bytes) f short =
     set_short k p (Pipe (pipe_of k p ++ bytes)) (let more : length (pipe_of k p ++ bytes) ≡ length (pipe_of k p) + length bytes = length-append (pipe_of k p) bytes in let low : length (pipe_of k p) + length bytes ≤ capacity = f.1 in omega arith) short
 one_short chosen k (Set_offset d place) f short = subst IsShort (sym (set_there k d place f.0 f.1)) short
+one_short chosen k (Set_rights n rights) f short = short
 one_short chosen k (Open_inode i inode how q s) can short = short
 one_short chosen k (Make_pipe i q f g) can short = set_short k (number chosen (Made i)) (Pipe []) (no_bytes k) short
 one_short chosen k (Share_slot q f d pipes) can short = short

@@ -8,7 +8,7 @@ use Rattle.model.specs.Changes.{Edit, applied, holders, openings, is_held, is_re
 use Rattle.model.proofs.Laws.{weight, sum-remove}
 use Rattle.call_laws.proofs.Laws.{one_some, not_none, true_is_false, some_part, Part, sum-alike, removed_same, removed_other, held, held-alike, one, reached, either_of, held_by, rooted_reached, open_reached, alike_tidied}
 use Rattle.freeing_laws.specs.Counts.{times, opens, let_go, unnamed, named, opened, free_description, free_inode, EditCounts, FreeingCounts}
-use Rattle.freeing_laws.specs.Sweep.{AreParented, nothing, inode_in, free_inodes, closed, all_closed, freed_in_turn}
+use Rattle.freeing_laws.specs.Sweep.{AreParented, AreSet, nothing, inode_in, free_inodes, closed, all_closed, freed_in_turn}
 use Rattle.freeing_laws.proofs.Times.{Has, has_rest, has_left, has_right, times_one, same_one, fewer}
 use Rattle.freeing_laws.proofs.Freeing.{Covers, rooted_is_reached, unreached_bare, without_inode, removed_links, same_reached, parents_left, covered_is_tidy}
 use Rattle.freeing_laws.proofs.Losing.{Comes, IsOpen, opened_by, same_links, edit_covers}
@@ -94,7 +94,7 @@ description_gone k d loose = alike_tidied k (without_description d k) (record {
   made = refl;
   held = λ e held. removed_other k.descriptions d e (λ same. true_is_false (sym held ∙ ap (is_held k) same ∙ loose));
   links = gone_links k d;
-  inodes = λ n _. refl;
+  inodes = λ n _. (refl, refl);
 })
 
 inode_gone : (k : Kernel) (n : ℕ) → AreParented k → is_reached k n ≡ false → tidy (without_inode n k) ≡ tidy k
@@ -105,7 +105,9 @@ inode_gone k n parents loose = alike_tidied k (without_inode n k) (record {
   made = refl;
   held = λ e _. refl;
   links = removed_links k n (unreached_bare k n parents loose);
-  inodes = λ m is. removed_other k.inodes n m (λ same. true_is_false (sym (left_is_counted k m is) ∙ ap (is_reached k) same ∙ loose));
+  inodes = λ m is.
+      let away : m ≢ n = λ same. true_is_false (sym (left_is_counted k m is) ∙ ap (is_reached k) same ∙ loose) in
+      (removed_other k.inodes n m away, removed_other k.rights n m away);
 })
 
 pub description_unseen : (k : Kernel) (d : ℕ) → tidy (free_description d k) ≡ tidy k
@@ -138,6 +140,7 @@ freeing_counts_lem = record {
 pub record Waits (end : Kernel) (ds ns : List ℕ) (k : Kernel) : Type 0 where
   pub tidied : tidy k ≡ end
   pub parents : AreParented k
+  pub set : AreSet k
   pub descriptions : (d : ℕ) → get k.descriptions d ≢ None → (is_held k d ≡ true) ⊎ Has ds d
   pub inodes : (n : ℕ) → get k.inodes n ≢ None → (is_reached k n ≡ true) ⊎ Has ns n
 
@@ -156,6 +159,7 @@ inode_waits end ds ns n k w = freed_inode (Waits end ds ns) k n
     (λ is. record {
       tidied = w.tidied;
       parents = w.parents;
+      set = w.set;
       descriptions = w.descriptions;
       inodes = λ m there. elim (cases_eq m n) [
         | inl same ↦ inl (ap (is_reached k) same ∙ is)
@@ -165,6 +169,10 @@ inode_waits end ds ns n k w = freed_inode (Waits end ds ns) k n
     (λ loose. record {
       tidied = inode_gone k n w.parents loose ∙ w.tidied;
       parents = parents_left k n w.parents false loose;
+      set = λ m none. elim (cases_eq m n) [
+        | inl same ↦ ap (get (remove k.rights n)) same ∙ removed_same k.rights n
+        | inr away ↦ removed_other k.rights n m away ∙ w.set m (sym (removed_other k.inodes n m away) ∙ none)
+      ];
       descriptions = λ d there. elim (w.descriptions d there) [ inl held ↦ inl (ap (λ c. nat_lt 0 c) (inode_gone_holders k n d) ∙ held) | inr has ↦ inr has ];
       inodes = λ m there. let was = left_there k.inodes n m there in elim (w.inodes m was.1) [
         | inl is ↦ inl (same_reached k n (unreached_bare k n w.parents loose) m ∙ is)
@@ -195,6 +203,7 @@ description_waits end ds ns d k w = freed_description (Waits end ds (inode_in (g
     (λ is. record {
       tidied = w.tidied;
       parents = w.parents;
+      set = w.set;
       descriptions = λ e there. elim (cases_eq e d) [
         | inl same ↦ inl (ap (is_held k) same ∙ is)
         | inr away ↦ elim (w.descriptions e there) [ inl held ↦ inl held | inr has ↦ inr (has_rest e d ds (λ same. away (sym same)) has) ]
@@ -204,6 +213,7 @@ description_waits end ds ns d k w = freed_description (Waits end ds (inode_in (g
     (λ loose. record {
       tidied = description_gone k d loose ∙ w.tidied;
       parents = λ a x n e none. w.parents a x n e (sym (gone_links k d a) ∙ none);
+      set = w.set;
       descriptions = λ e there. let was = left_there k.descriptions d e there in elim (w.descriptions e was.1) [
         | inl held ↦ inl (ap (nat_lt 0) (gone_holders k d e) ∙ held)
         | inr has ↦ inr (has_rest e d ds (λ same. was.0 (sym same)) has)
@@ -236,7 +246,7 @@ counted_is_left k n all is = either_of (n == k.root) (nat_lt 0 (links k n)) (nat
 done : (end k : Kernel) → Waits end [] [] k → k ≡ end
 done end k w =
     let all : (d : ℕ) → get k.descriptions d ≢ None → is_held k d ≡ true = λ d there. elim (w.descriptions d there) [ inl held ↦ held | inr has ↦ absurd (none_stands d has) ] in
-    covered_is_tidy nothing k w.parents (record {
+    covered_is_tidy nothing k w.parents w.set (record {
       descriptions = λ d there. inl (all d there);
       inodes = λ n there. elim (w.inodes n there) [ inl is ↦ inl (counted_is_left k n all is) | inr has ↦ absurd (none_stands n has) ];
     }) ∙ w.tidied
@@ -251,6 +261,7 @@ all_turned end ds ns k w =
     let longer : Waits end [] (ns ++ []) (all_closed ds k) = record {
       tidied = closing.tidied;
       parents = closing.parents;
+      set = closing.set;
       descriptions = closing.descriptions;
       inodes = λ n there. elim (closing.inodes n there) [ inl is ↦ inl is | inr has ↦ inr (has_left n ns [] has) ];
     } in
@@ -286,8 +297,8 @@ edit_leads chosen k e ns counts comes led n there = elim (comes.inodes n there) 
 pub all_led : (k : Kernel) → Covers nothing k → Led [] k
 all_led k covers n there = elim (covers.inodes n there) [ inl is ↦ inl (left_is_counted k n is) | inr has ↦ inr has ]
 
-edit_waits : (chosen : List ℕ) (k : Kernel) (e : Edit) → EditCounts chosen k e → Comes k (applied chosen e k) → AreParented (applied chosen e k) → Covers nothing k → Waits (tidy (applied chosen e k)) (let_go k e) (unnamed e) (applied chosen e k)
-edit_waits chosen k e counts comes parents covers = record { tidied = refl; parents = parents; descriptions = (edit_covers chosen k e nothing counts comes covers).descriptions; inodes = edit_leads chosen k e [] counts comes (all_led k covers) }
+edit_waits : (chosen : List ℕ) (k : Kernel) (e : Edit) → EditCounts chosen k e → Comes k (applied chosen e k) → AreParented (applied chosen e k) → AreSet (applied chosen e k) → Covers nothing k → Waits (tidy (applied chosen e k)) (let_go k e) (unnamed e) (applied chosen e k)
+edit_waits chosen k e counts comes parents set covers = record { tidied = refl; parents = parents; set = set; descriptions = (edit_covers chosen k e nothing counts comes covers).descriptions; inodes = edit_leads chosen k e [] counts comes (all_led k covers) }
 
-pub turned_is_tidy : (chosen : List ℕ) (k : Kernel) (e : Edit) → EditCounts chosen k e → Comes k (applied chosen e k) → AreParented (applied chosen e k) → Covers nothing k → freed_in_turn chosen e k ≡ tidy (applied chosen e k)
-turned_is_tidy chosen k e counts comes parents covers = all_turned (tidy (applied chosen e k)) (let_go k e) (unnamed e) (applied chosen e k) (edit_waits chosen k e counts comes parents covers)
+pub turned_is_tidy : (chosen : List ℕ) (k : Kernel) (e : Edit) → EditCounts chosen k e → Comes k (applied chosen e k) → AreParented (applied chosen e k) → AreSet (applied chosen e k) → Covers nothing k → freed_in_turn chosen e k ≡ tidy (applied chosen e k)
+turned_is_tidy chosen k e counts comes parents set covers = all_turned (tidy (applied chosen e k)) (let_go k e) (unnamed e) (applied chosen e k) (edit_waits chosen k e counts comes parents set covers)

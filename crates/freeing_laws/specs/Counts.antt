@@ -5,8 +5,9 @@ use Rattle.std.specs.Prelude.{if◌then◌else◌}
 use Rattle.std.specs.List.{count_by}
 use Rattle.model.specs.FiniteMap.{get, remove, values}
 use Rattle.model.specs.State.{Kernel, Description, links, ends, is_end}
-use Rattle.model.specs.Changes.{Edit, Made, number, Make_directory, Make_file, Name_file}
-use Rattle.model.specs.Changes.{Unname_file, Unname_directory, Move, Open_inode, Make_pipe}
+use Rattle.model.specs.Changes.{Edit, Made, number, Make_directory, Make_file, Make_fixed}
+use Rattle.model.specs.Changes.{Name_file, Unname_file, Unname_directory, Move, Open_inode}
+use Rattle.model.specs.Changes.{Make_pipe}
 use Rattle.model.specs.Changes.{Share_slot, Clear_slot, New_process, End_process, process_of}
 use Rattle.model.specs.Changes.{at_offset, applied, holders, openings, inode_replaced, is_held}
 use Rattle.model.specs.Changes.{is_reached}
@@ -25,6 +26,7 @@ times n ns = count_by (λ m. m == n) ns
 abbrev pub named : List ℕ → Edit → List ℕ
 named chosen (Make_directory d x i) = number chosen (Made i) ∷ []
 named chosen (Make_file d x i) = number chosen (Made i) ∷ []
+named chosen (Make_fixed d x fixed i) = number chosen (Made i) ∷ []
 named chosen (Name_file d x n) = n ∷ []
 named chosen _ = []
 
@@ -85,9 +87,11 @@ unfoldable pub free_description : ℕ → Kernel → Kernel
 free_description d k =
     if is_held k d then k else record k { descriptions = remove k.descriptions d }
 
--- an inode goes if its counts of names and of openings are 0, and it is not the root
+-- an inode goes with its rights if its counts of names and of openings are 0, and it is not the root
 unfoldable pub free_inode : ℕ → Kernel → Kernel
-free_inode n k = if is_reached k n then k else record k { inodes = remove k.inodes n }
+free_inode n k =
+    if is_reached k n then k
+    else record k { inodes = remove k.inodes n; rights = remove k.rights n }
 
 -- how many of the openings of n a description has
 abbrev pub opens : ℕ → Option Description → ℕ

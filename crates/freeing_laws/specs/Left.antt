@@ -7,7 +7,7 @@ use Rattle.model.specs.Changes.{set_process, with_slot, without_slot, process_of
 use Rattle.model.specs.Effects.{Effect, all_done}
 use Rattle.call_laws.specs.Fits.{table_of}
 use Rattle.freeing_laws.specs.Counts.{listed, times, named, unnamed}
-use Rattle.freeing_laws.specs.Sweep.{AllFit, AreParented, IsTidied, all_closed, free_inodes}
+use Rattle.freeing_laws.specs.Sweep.{AllFit, AreParented, AreSet, IsTidied, all_closed, free_inodes}
 
 -- the inodes that edits give a name, and those that lose one
 abbrev pub all_named : List ℕ → List Edit → List ℕ
@@ -29,6 +29,7 @@ unnamed_along (f ∷ fs) = all_unnamed f.edits ++ unnamed_along fs
 -- by the counts, what nothing leads to is among these descriptions and inodes
 pub record AreLeft (ds ns : List ℕ) (k : Kernel) : Type 0 where
   pub parents : AreParented k
+  pub rights : AreSet k
   pub descriptions : (d : ℕ) → get k.descriptions d ≢ None → (is_held k d ≡ true) ⊎ (0 < times d ds)
   pub inodes : (n : ℕ) → get k.inodes n ≢ None → (is_reached k n ≡ true) ⊎ (0 < times n ns)
 

@@ -4,7 +4,7 @@ use Rattle.std.specs.Prelude.{◌≡◌, ◌≢◌, ◌≤◌, ℕ, ◌+◌, ◌
 use Rattle.std.specs.Ordering.{nat_cmp}
 use Rattle.model.specs.FiniteMap.{FinMap, get, remove, len}
 use Rattle.model.specs.Limits.{descriptor_limit}
-use Rattle.model.specs.State.{Kernel, Inode, Description, Process}
+use Rattle.model.specs.State.{Kernel, Inode, Description, Process, Rights}
 use Rattle.model.specs.Changes.{set_description, set_offset, at_offset, openings, holders}
 use Rattle.call_laws.specs.WellFormed.{WellFormed}
 use Rattle.call_laws.specs.Fits.{table_of}
@@ -36,14 +36,21 @@ pub record OpeningsChange : Type 0 where
   pub by_processes : (k l : Kernel) → l.processes ≡ k.processes → (d : ℕ)
       → holders l d ≡ holders k d
   pub openings_apart : (k : Kernel) (root : ℕ) (inodes : FinMap nat_cmp Inode)
-      (processes : FinMap nat_cmp Process) (made n : ℕ)
-      → openings (record k { root = root; inodes = inodes; processes = processes; made = made }) n
+      (rights : FinMap nat_cmp Rights) (processes : FinMap nat_cmp Process) (made n : ℕ)
+      → openings (record k {
+        root = root;
+        inodes = inodes;
+        rights = rights;
+        processes = processes;
+        made = made;
+      }) n
       ≡ openings k n
   pub holders_apart : (k : Kernel) (root : ℕ) (inodes : FinMap nat_cmp Inode)
-      (descriptions : FinMap nat_cmp Description) (made d : ℕ)
+      (rights : FinMap nat_cmp Rights) (descriptions : FinMap nat_cmp Description) (made d : ℕ)
       → holders (record k {
         root = root;
         inodes = inodes;
+        rights = rights;
         descriptions = descriptions;
         made = made;
       }) d

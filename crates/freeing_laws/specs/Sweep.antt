@@ -128,6 +128,10 @@ abbrev pub AreParented : Kernel → Type 0
 AreParented k =
     (d : ℕ) (x : Name) (n : ℕ) → get (names_of k d) x ≡ Some n → links k d ≡ 0 → d ≡ k.root
 
+-- rights are set of inodes that are there
+abbrev pub AreSet : Kernel → Type 0
+AreSet k = (n : ℕ) → get k.inodes n ≡ None → get k.rights n ≡ None
+
 -- the edits after which something may go
 abbrev pub loses : Edit → Bool
 loses (Unname_file d x n) = true
@@ -173,6 +177,7 @@ pub record SweepIsTidy : Type 0 where
   pub well : (fs : List Effect) (k : Kernel) → WellFormed k → AllFit fs k
       → WellFormed (all_done fs k)
   pub parented : (k : Kernel) → WellFormed k → AreParented k
+  pub set : (k : Kernel) → WellFormed k → AreSet k
   -- so what may go has no names in it, and when it has gone the others have their parents still.
   pub bare : (k : Kernel) (n : ℕ) → AreParented k → is_reached k n ≡ false → (x : Name) (m : ℕ)
       → get (names_of k n) x ≢ Some m

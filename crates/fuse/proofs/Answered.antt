@@ -4,8 +4,8 @@ use Rattle.std.specs.Prelude.{not, option_map}
 use Rattle.std.proofs.lemmas.Bool.{eqb-true}
 use Rattle.fuse.specs.declared.request.Operation.{Operation}
 use Rattle.fuse.specs.declared.request.Operation.TheVariants as op
-use Rattle.fuse.specs.Bodies.{access_in, batch_forget_in, behind, changes_in, create_in, destroy_in, flush_in, forget_in, forgets_in, fsync_in, getattr_in, init_in, interrupt_in, link_in, lookup_in, lseek_in, mkdir_in, mknod_in, of_length, open_in, opendir_in, read_in, readdir_in, release_in, releasedir_in, rename2_in, rename_in, rmdir_in, setattr_in, statfs_in, unlink_in, whence_of, where_set, write_in}
-use Rattle.fuse.specs.Names.{name_in, names_in}
+use Rattle.fuse.specs.Bodies.{access_in, batch_forget_in, behind, changes_in, create_in, destroy_in, flush_in, forget_in, forgets_in, fsync_in, getattr_in, init_in, interrupt_in, link_in, lookup_in, lseek_in, mkdir_in, mknod_in, of_length, open_in, opendir_in, read_in, readdir_in, readlink_in, release_in, releasedir_in, rename2_in, rename_in, rmdir_in, setattr_in, statfs_in, symlink_in, unlink_in, whence_of, where_set, write_in}
+use Rattle.fuse.specs.Names.{name_and_text_in, name_in, names_in}
 use Rattle.fuse.specs.Numbers.{u32_at, u64_at}
 use Rattle.fuse.specs.Operations.{file_operation_in, is_answered, is_silent, node_operation_in, operation_in, session_operation_in}
 
@@ -37,6 +37,10 @@ lookup_tells : (body : List ℕ) → Tells true (lookup_in body)
 unfolding lookup_in
 lookup_tells body = map_tells (λ name. op.Lookup name) (name_in body) (λ x. refl)
 
+symlink_tells : (body : List ℕ) → Tells true (symlink_in body)
+unfolding symlink_in
+symlink_tells body = map_tells (λ texts. op.SymLink texts.0 texts.1) (name_and_text_in body) (λ x. refl)
+
 mknod_tells : (body : List ℕ) → Tells true (mknod_in body)
 unfolding mknod_in
 mknod_tells body = map_tells (λ name. op.MkNod name (u32_at body 0)) (behind 16 name_in body) (λ x. refl)
@@ -63,7 +67,7 @@ link_tells body = map_tells (λ name. op.Link (u64_at body 0) name) (behind 8 na
 
 create_tells : (body : List ℕ) → Tells true (create_in body)
 unfolding create_in
-create_tells body = map_tells (λ name. op.Create name (u32_at body 0) (u32_at body 4)) (behind 16 name_in body) (λ x. refl)
+create_tells body = map_tells (λ name. op.Create name (u32_at body 0) (u32_at body 4) (u32_at body 12)) (behind 16 name_in body) (λ x. refl)
 
 rename2_tells : (body : List ℕ) → Tells true (rename2_in body)
 unfolding rename2_in
@@ -71,7 +75,7 @@ rename2_tells body = map_tells (λ names. op.Rename names.0 (u64_at body 0) name
 
 open_tells : (body : List ℕ) → Tells true (open_in body)
 unfolding open_in
-open_tells body = of_length_tells true 8 body (op.Open (u32_at body 0)) refl
+open_tells body = of_length_tells true 8 body (op.Open (u32_at body 0) (u32_at body 4)) refl
 
 read_tells : (body : List ℕ) → Tells true (read_in body)
 unfolding read_in
@@ -109,6 +113,10 @@ getattr_tells body = of_length_tells true 16 body (op.GetAttr (where_set (u32_at
 setattr_tells : (body : List ℕ) → Tells true (setattr_in body)
 unfolding setattr_in
 setattr_tells body = of_length_tells true 88 body (op.SetAttr (changes_in body)) refl
+
+readlink_tells : (body : List ℕ) → Tells true (readlink_in body)
+unfolding readlink_in
+readlink_tells body = of_length_tells true 0 body (op.ReadLink) refl
 
 statfs_tells : (body : List ℕ) → Tells true (statfs_in body)
 unfolding statfs_in
@@ -165,6 +173,7 @@ unfolding operation_in file_operation_in node_operation_in session_operation_in
 operation_tells opcode body =
     let P : ℕ → Type 0 = λ n. Tells (not (is_silent n)) (operation_in n body) in
     where_it_is 1 opcode P (eqb opcode 1) refl (lookup_tells body) (λ e1.
+    where_it_is 6 opcode P (eqb opcode 6) refl (symlink_tells body) (λ e6.
     where_it_is 8 opcode P (eqb opcode 8) refl (mknod_tells body) (λ e8.
     where_it_is 9 opcode P (eqb opcode 9) refl (mkdir_tells body) (λ e9.
     where_it_is 10 opcode P (eqb opcode 10) refl (unlink_tells body) (λ e10.
@@ -182,6 +191,7 @@ operation_tells opcode body =
     where_it_is 46 opcode P (eqb opcode 46) refl (lseek_tells body) (λ e46.
     where_it_is 3 opcode P (eqb opcode 3) refl (getattr_tells body) (λ e3.
     where_it_is 4 opcode P (eqb opcode 4) refl (setattr_tells body) (λ e4.
+    where_it_is 5 opcode P (eqb opcode 5) refl (readlink_tells body) (λ e5.
     where_it_is 17 opcode P (eqb opcode 17) refl (statfs_tells body) (λ e17.
     where_it_is 27 opcode P (eqb opcode 27) refl (opendir_tells body) (λ e27.
     where_it_is 28 opcode P (eqb opcode 28) refl (readdir_tells body) (λ e28.
@@ -192,4 +202,4 @@ operation_tells opcode body =
     where_it_is 36 opcode P (eqb opcode 36) refl (interrupt_tells body) (λ e36.
     where_it_is 38 opcode P (eqb opcode 38) refl (destroy_tells body) (λ e38.
     where_it_is 42 opcode P (eqb opcode 42) refl (batch_forget_tells body) (λ e42.
-    rw (e1, e8, e9, e10, e11, e12, e13, e35, e45, e14, e15, e16, e18, e20, e25, e46, e3, e4, e17, e27, e28, e29, e34, e2, e26, e36, e38, e42) (some_tells true (op.Other opcode) refl)))))))))))))))))))))))))))))
+    rw (e1, e6, e8, e9, e10, e11, e12, e13, e35, e45, e14, e15, e16, e18, e20, e25, e46, e3, e4, e5, e17, e27, e28, e29, e34, e2, e26, e36, e38, e42) (some_tells true (op.Other opcode) refl)))))))))))))))))))))))))))))))

@@ -1,6 +1,6 @@
 -- The bodies of requests, which stand behind the header, each as Linux lays it out. An offset is
 -- counted from the body's first byte.
-use Rattle.std.specs.Prelude.{ℕ, zero, suc, ◌+◌, ◌*◌, ◌==◌, nat_lt, bit_and}
+use Rattle.std.specs.Prelude.{ℕ, zero, suc, ◌+◌, ◌*◌, ◌==◌, nat_lt, bit_and, Bool, not}
 use Rattle.std.specs.Prelude.{List, [], ◌∷◌, length, drop}
 use Rattle.std.specs.Prelude.{Option, Some, None, option_map, if◌then◌else◌}
 use Rattle.fuse.specs.declared.request.Changes.{Changes}
@@ -11,7 +11,7 @@ use Rattle.fuse.specs.declared.request.TimeChange.{TimeChange}
 use Rattle.fuse.specs.declared.request.TimeChange.TheVariants as time
 use Rattle.fuse.specs.declared.request.Whence.{Whence}
 use Rattle.fuse.specs.declared.request.Whence.TheVariants as whence
-use Rattle.fuse.specs.Names.{name_in, names_in}
+use Rattle.fuse.specs.Names.{name_and_text_in, name_in, names_in}
 use Rattle.fuse.specs.Numbers.{u32_at, u64_at}
 
 -- the value, where there are exactly so many bytes
@@ -22,6 +22,10 @@ of_length n body x = if length body == n then Some x else None
 abbrev pub behind : {A : Type 0} → ℕ → (List ℕ → Option A) → List ℕ → Option A
 behind n f body = if nat_lt (length body) n then None else f (drop n body)
 
+-- whether this bit of the mask is set
+abbrev pub is_set : ℕ → ℕ → Bool
+is_set mask bit = not (bit_and mask bit == 0)
+
 -- the value, where this bit of the mask is set
 abbrev pub where_set : {A : Type 0} → ℕ → ℕ → A → Option A
 where_set mask bit x = if bit_and mask bit == 0 then None else Some x
@@ -30,6 +34,10 @@ where_set mask bit x = if bit_and mask bit == 0 then None else Some x
 
 unfoldable pub lookup_in : List ℕ → Option Operation
 lookup_in body = option_map (λ name. op.Lookup name) (name_in body)
+
+-- the name, and the target of the link (fs/fuse/dir.c, fuse_symlink: in this order)
+unfoldable pub symlink_in : List ℕ → Option Operation
+symlink_in body = option_map (λ texts. op.SymLink texts.0 texts.1) (name_and_text_in body)
 
 -- mode, device, umask and padding, and the name
 unfoldable pub mknod_in : List ℕ → Option Operation
@@ -63,13 +71,14 @@ link_in body = option_map (λ name. op.Link (u64_at body 0) name) (behind 8 name
 -- flags, mode, umask and flags of the protocol, and the name
 unfoldable pub create_in : List ℕ → Option Operation
 create_in body =
-    option_map (λ name. op.Create name (u32_at body 0) (u32_at body 4)) (behind 16 name_in body)
+    option_map (λ name. op.Create name (u32_at body 0) (u32_at body 4) (u32_at body 12))
+    (behind 16 name_in body)
 
 -- ---- open files
 
 -- flags, and flags of the protocol
 unfoldable pub open_in : List ℕ → Option Operation
-open_in body = of_length 8 body (op.Open (u32_at body 0))
+open_in body = of_length 8 body (op.Open (u32_at body 0) (u32_at body 4))
 
 -- handle, offset, size, flags of the read, owner of locks, flags of the open and padding
 unfoldable pub read_in : List ℕ → Option Operation
@@ -114,6 +123,9 @@ lseek_in body =
 
 -- ---- directories and nodes
 
+unfoldable pub readlink_in : List ℕ → Option Operation
+readlink_in body = of_length 0 body op.ReadLink
+
 -- as of an open file
 unfoldable pub opendir_in : List ℕ → Option Operation
 opendir_in body = of_length 8 body op.OpenDir
@@ -141,8 +153,9 @@ time_change mask bit now seconds nanoseconds =
     else Some (time.Now (record { seconds = seconds; nanoseconds = nanoseconds }))
 
 -- The mask is the first number. Its bits: mode 1, uid 2, gid 4, size 8, time of access 16, time of
--- modification 32, handle 64, access now 128, modification now 256. The time of the change of
--- attributes, the owner of locks and padding are left out.
+-- modification 32, handle 64, access now 128, modification now 256, set-user-ID and set-group-ID
+-- taken away 2048. The time of the change of attributes, the owner of locks and padding are left
+-- out.
 unfoldable pub changes_in : List ℕ → Changes
 changes_in body = record {
   handle = where_set (u32_at body 0) 64 (u64_at body 8);
@@ -152,6 +165,7 @@ changes_in body = record {
   mode = where_set (u32_at body 0) 1 (u32_at body 68);
   uid = where_set (u32_at body 0) 2 (u32_at body 76);
   gid = where_set (u32_at body 0) 4 (u32_at body 80);
+  drops_set_ids = is_set (u32_at body 0) 2048;
 }
 
 unfoldable pub setattr_in : List ℕ → Option Operation

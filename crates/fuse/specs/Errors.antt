@@ -25,6 +25,7 @@ number_of errno.EPIPE = 32
 number_of errno.ENAMETOOLONG = 36
 number_of errno.ENOSYS = 38
 number_of errno.ENOTEMPTY = 39
+number_of errno.ELOOP = 40
 number_of errno.EOPNOTSUPP = 95
 number_of errno.ESTALE = 116
 number_of errno.ECANCELED = 125

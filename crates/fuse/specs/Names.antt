@@ -30,6 +30,19 @@ names_in bytes =
     option_and_then (λ first. option_map (λ second. (first.0, second)) (name_in first.1))
     (first_name_in bytes)
 
+-- any text, which ends at the first zero byte, and that is the last one
+abbrev pub text_up_to : List ℕ → ℕ → Option (List ℕ)
+text_up_to bytes end = if end + 1 == length bytes then Some (take end bytes) else None
+
+unfoldable pub text_in : List ℕ → Option (List ℕ)
+text_in bytes = option_and_then (text_up_to bytes) (position (λ b. b == 0) bytes)
+
+-- the name and the text behind it that the bytes are
+unfoldable pub name_and_text_in : List ℕ → Option (List ℕ × List ℕ)
+name_and_text_in bytes =
+    option_and_then (λ first. option_map (λ text. (first.0, text)) (text_in first.1))
+    (first_name_in bytes)
+
 -- one byte or more, and none of them zero or a slash
 abbrev pub IsName : List ℕ → Type 0
 IsName name = (0 < length name) × AllByRecursion (λ b. (b ≢ 0) × (b ≢ 47)) name

@@ -2,10 +2,10 @@
 use Rattle.std.specs.Prelude.{ℕ, ◌==◌, ◌||◌, Bool, true, false, List, Option, Some, if◌then◌else◌}
 use Rattle.fuse.specs.declared.request.Operation.{Operation}
 use Rattle.fuse.specs.declared.request.Operation.TheVariants as op
-use Rattle.fuse.specs.Bodies.{lookup_in, mknod_in, mkdir_in, unlink_in, rmdir_in, rename_in}
-use Rattle.fuse.specs.Bodies.{rename2_in, link_in, create_in, open_in, read_in, write_in}
+use Rattle.fuse.specs.Bodies.{lookup_in, symlink_in, mknod_in, mkdir_in, unlink_in, rmdir_in}
+use Rattle.fuse.specs.Bodies.{rename_in, rename2_in, link_in, create_in, open_in, read_in, write_in}
 use Rattle.fuse.specs.Bodies.{release_in, fsync_in, flush_in, lseek_in, opendir_in, readdir_in}
-use Rattle.fuse.specs.Bodies.{releasedir_in, getattr_in, setattr_in, access_in}
+use Rattle.fuse.specs.Bodies.{releasedir_in, getattr_in, setattr_in, readlink_in, access_in}
 use Rattle.fuse.specs.Bodies.{statfs_in, init_in, destroy_in, interrupt_in, forget_in}
 use Rattle.fuse.specs.Bodies.{batch_forget_in}
 
@@ -23,6 +23,7 @@ unfoldable pub node_operation_in : ℕ → List ℕ → Option Operation
 node_operation_in opcode body =
     if opcode == 3 then getattr_in body
     else if opcode == 4 then setattr_in body
+    else if opcode == 5 then readlink_in body
     else if opcode == 17 then statfs_in body
     else if opcode == 27 then opendir_in body
     else if opcode == 28 then readdir_in body
@@ -44,6 +45,7 @@ file_operation_in opcode body =
 unfoldable pub operation_in : ℕ → List ℕ → Option Operation
 operation_in opcode body =
     if opcode == 1 then lookup_in body
+    else if opcode == 6 then symlink_in body
     else if opcode == 8 then mknod_in body
     else if opcode == 9 then mkdir_in body
     else if opcode == 10 then unlink_in body

@@ -11,6 +11,12 @@ pub const OPEN_TRUNCATE: u32 = 0o1000;
 /// Each write goes to the end of the file, wherever that is then: O_APPEND.
 pub const OPEN_APPEND: u32 = 0o2000;
 
+// ---- how a file is opened besides (FUSE_OPEN_ in linux/fuse.h)
+
+/// Where the open cuts the file, set-user-ID and set-group-ID go with its bytes:
+/// FUSE_OPEN_KILL_SUIDGID.
+pub const OPEN_DROPS_SET_IDS: u32 = 1 << 0;
+
 // ---- the flags of a reply to an open (FOPEN_ in linux/fuse.h)
 
 /// Reads and writes go past the kernel's cache.
@@ -34,6 +40,10 @@ pub const INIT_DROPS_CHANGED: u32 = 1 << 12;
 /// The reply tells how many pages a request may have: FUSE_MAX_PAGES.
 pub const INIT_MAX_PAGES: u32 = 1 << 22;
 
+/// Whoever serves takes set-user-ID and set-group-ID away: where a request says so, and where
+/// anything but a directory gets another owner. FUSE_HANDLE_KILLPRIV_V2.
+pub const INIT_DROPS_SET_IDS: u32 = 1 << 28;
+
 // ---- modes (S_IF in Linux's stat.h)
 
 /// The bits of a mode that tell the kind of a node.
@@ -42,7 +52,7 @@ pub const MODE_KIND: u32 = 0o170_000;
 /// The bits below these: permissions, and three more that go with them.
 pub const MODE_PERMISSIONS: u32 = 0o7_777;
 
-/// A pipe with a name.
+/// A FIFO, which is a pipe with a name.
 pub const MODE_PIPE: u32 = 0o010_000;
 
 /// A directory.
@@ -50,6 +60,12 @@ pub const MODE_DIRECTORY: u32 = 0o040_000;
 
 /// A file.
 pub const MODE_FILE: u32 = 0o100_000;
+
+/// A symbolic link.
+pub const MODE_LINK: u32 = 0o120_000;
+
+/// A socket.
+pub const MODE_SOCKET: u32 = 0o140_000;
 
 // ---- the flags of a rename (RENAME_ in linux/fs.h)
 
@@ -63,3 +79,6 @@ pub const RENAME_EXCHANGE: u32 = 1 << 1;
 
 /// The kernel writes from its cache, and not a program at the moment.
 pub const WRITE_FROM_CACHE: u32 = 1 << 0;
+
+/// Set-user-ID and set-group-ID go: FUSE_WRITE_KILL_SUIDGID.
+pub const WRITE_DROPS_SET_IDS: u32 = 1 << 2;

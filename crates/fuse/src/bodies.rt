@@ -2,9 +2,9 @@
 ghost use Rattle.std.specs.Prelude.{◌≡◌, ◌+◌, ◌≤◌, length};
 ghost use Rattle.fuse.specs.Bodies.{access_in, batch_forget_in, changes_in, destroy_in, flush_in};
 ghost use Rattle.fuse.specs.Bodies.{forget_in, fsync_in, getattr_in, init_in, interrupt_in};
-ghost use Rattle.fuse.specs.Bodies.{lseek_in, open_in, opendir_in, read_in, readdir_in};
+ghost use Rattle.fuse.specs.Bodies.{lseek_in, open_in, opendir_in, read_in, readdir_in, readlink_in};
 ghost use Rattle.fuse.specs.Bodies.{release_in, releasedir_in, setattr_in, statfs_in, time_change};
-ghost use Rattle.fuse.specs.Bodies.{whence_of, where_set, write_in};
+ghost use Rattle.fuse.specs.Bodies.{is_set, whence_of, where_set, write_in};
 ghost use Rattle.fuse.specs.Faults.{Reads};
 ghost use Rattle.fuse.specs.Numbers.{u32_at, u64_at};
 
@@ -25,7 +25,8 @@ pub(crate) fn open_in(body: &[u8]) -> Option<Operation>
         return None;
     }
     let flags = u32_at(body, 0);
-    Some(Operation::Open { flags })
+    let how = u32_at(body, 4);
+    Some(Operation::Open { flags, how })
 }
 
 #[tactic(auto, unfolding(crate::specs::Bodies::read_in))]
@@ -131,6 +132,17 @@ pub(crate) fn lseek_in(body: &[u8]) -> Option<Operation>
 
 // ---- directories and nodes
 
+#[tactic(auto, unfolding(crate::specs::Bodies::readlink_in))]
+pub(crate) fn readlink_in(body: &[u8]) -> Option<Operation>
+    ensures { result ≡ readlink_in body.now }
+{
+    if body.is_empty() {
+        Some(Operation::ReadLink)
+    } else {
+        None
+    }
+}
+
 #[tactic(auto, unfolding(crate::specs::Bodies::opendir_in))]
 pub(crate) fn opendir_in(body: &[u8]) -> Option<Operation>
     ensures { result ≡ opendir_in body.now }
@@ -165,6 +177,13 @@ pub(crate) fn releasedir_in(body: &[u8]) -> Option<Operation>
     }
     let handle = u64_at(body, 0);
     Some(Operation::ReleaseDir { handle })
+}
+
+// Whether this bit of the mask is set.
+fn is_set(mask: u32, bit: u32) -> bool
+    ensures { result ≡ is_set mask bit }
+{
+    mask & bit != 0
 }
 
 // A number of 64 bits, where this bit of the mask is set.
@@ -233,6 +252,7 @@ fn changes_in(body: &[u8]) -> Changes
         mode: small_where_set(mask, 1, u32_at(body, 68)),
         uid: small_where_set(mask, 2, u32_at(body, 76)),
         gid: small_where_set(mask, 4, u32_at(body, 80)),
+        drops_set_ids: is_set(mask, 2048),
     }
 }
 

@@ -13,7 +13,7 @@ pub enum Errno {
     ENOENT,
     /// The request did not come as it was sent.
     EIO,
-    /// There is no byte at the offset.
+    /// There is no byte at the offset, or nothing behind a name.
     ENXIO,
     /// The file is not open.
     EBADF,
@@ -47,6 +47,8 @@ pub enum Errno {
     ENOSYS,
     /// The directory has names.
     ENOTEMPTY,
+    /// A symbolic link is in the way.
+    ELOOP,
     /// The operation is not supported for this.
     EOPNOTSUPP,
     /// What the node stood for is gone.
@@ -83,6 +85,7 @@ impl Errno {
             Errno::ENAMETOOLONG => 36,
             Errno::ENOSYS => 38,
             Errno::ENOTEMPTY => 39,
+            Errno::ELOOP => 40,
             Errno::EOPNOTSUPP => 95,
             Errno::ESTALE => 116,
             Errno::ECANCELED => 125,

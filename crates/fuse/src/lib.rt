@@ -1,4 +1,5 @@
-//! Requests and replies of Linux's FUSE protocol as values, at version 7.31.
+//! Requests and replies of Linux's FUSE protocol as values, at version 7.31, with what 7.33 has
+//! added: which requests take set-user-ID and set-group-ID away.
 //!
 //! The kernel writes a request as bytes, and [`parse`] says what it asks. [`put_reply`] writes what
 //! is answered. Contracts say both exactly, over the layouts of `specs/`: which request or fault

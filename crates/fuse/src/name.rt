@@ -3,7 +3,8 @@ ghost use Rattle.std.specs.Prelude.{◌≡◌, ◌==◌, ◌≤◌, ◌<◌, len
 ghost use Rattle.std.specs.Prelude.{IfSome, OnOk, Some, option_map};
 ghost use Rattle.fuse.specs.Bodies.{behind};
 ghost use Rattle.fuse.specs.Faults.{Reads};
-ghost use Rattle.fuse.specs.Names.{first_name_in, is_name, name_in, names_in};
+ghost use Rattle.fuse.specs.Names.{first_name_in, is_name, name_and_text_in, name_in, names_in};
+ghost use Rattle.fuse.specs.Names.{text_in};
 
 use crate::fault::BodyFault;
 use heap::Heap;
@@ -57,7 +58,30 @@ fn two_names(bytes: &[u8]) -> Option<(&[u8], &[u8])>
     Some((first, second))
 }
 
-// A copy of a name.
+// The text that the bytes are.
+#[tactic(auto, unfolding(crate::specs::Names::text_in))]
+fn one_text(bytes: &[u8]) -> Option<&[u8]>
+    ensures { option_map (λ text. text.now) result ≡ text_in bytes.now }
+{
+    let end = first_zero(bytes)?;
+    if end + 1 == bytes.len() {
+        Some(&bytes[..end])
+    } else {
+        None
+    }
+}
+
+// The name and the text behind it that the bytes are.
+#[tactic(auto, unfolding(crate::specs::Names::name_and_text_in))]
+fn name_and_text(bytes: &[u8]) -> Option<(&[u8], &[u8])>
+    ensures { option_map (λ p. (p.0.now, p.1.now)) result ≡ name_and_text_in bytes.now }
+{
+    let (name, rest) = first_name(bytes)?;
+    let text = one_text(rest)?;
+    Some((name, text))
+}
+
+// A copy of a name, or of a text.
 fn owned(heap: Heap, name: &[u8]) -> Result<Bytes, BodyFault>
     ensures { Reads (Some name.now) result }
 {
@@ -111,4 +135,14 @@ pub(crate) fn names_behind(
         return Err(BodyFault::Malformed);
     }
     names_of(heap, &body[offset..])
+}
+
+// The name and the text behind it that a body is.
+pub(crate) fn name_and_text_of(heap: Heap, body: &[u8]) -> Result<(Bytes, Bytes), BodyFault>
+    ensures { Reads (name_and_text_in body.now) result }
+{
+    let Some((name, text)) = name_and_text(body) else {
+        return Err(BodyFault::Malformed);
+    };
+    Ok((owned(heap, name)?, owned(heap, text)?))
 }

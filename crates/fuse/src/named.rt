@@ -1,10 +1,10 @@
 // The bodies of requests with names.
 ghost use Rattle.fuse.specs.Bodies.{create_in, link_in, lookup_in, mkdir_in, mknod_in};
-ghost use Rattle.fuse.specs.Bodies.{rename2_in, rename_in, rmdir_in, unlink_in};
+ghost use Rattle.fuse.specs.Bodies.{rename2_in, rename_in, rmdir_in, symlink_in, unlink_in};
 ghost use Rattle.fuse.specs.Faults.{Reads};
 
 use crate::fault::BodyFault;
-use crate::name::{name_behind, name_of, names_behind};
+use crate::name::{name_and_text_of, name_behind, name_of, names_behind};
 use crate::number::{u32_at, u64_at};
 use crate::request::Operation;
 use heap::Heap;
@@ -15,6 +15,14 @@ pub(crate) fn lookup_in(heap: Heap, body: &[u8]) -> Result<Operation, BodyFault>
 {
     let name = name_of(heap, body)?;
     Ok(Operation::Lookup { name })
+}
+
+#[tactic(auto, unfolding(crate::specs::Bodies::symlink_in))]
+pub(crate) fn symlink_in(heap: Heap, body: &[u8]) -> Result<Operation, BodyFault>
+    ensures { Reads (symlink_in body.now) result }
+{
+    let (name, target) = name_and_text_of(heap, body)?;
+    Ok(Operation::SymLink { name, target })
 }
 
 #[tactic(auto, unfolding(crate::specs::Bodies::mknod_in))]
@@ -96,5 +104,11 @@ pub(crate) fn create_in(heap: Heap, body: &[u8]) -> Result<Operation, BodyFault>
     let name = name_behind(heap, body, 16)?;
     let flags = u32_at(body, 0);
     let mode = u32_at(body, 4);
-    Ok(Operation::Create { name, flags, mode })
+    let how = u32_at(body, 12);
+    Ok(Operation::Create {
+        name,
+        flags,
+        mode,
+        how,
+    })
 }

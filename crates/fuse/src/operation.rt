@@ -6,12 +6,13 @@ ghost use Rattle.fuse.specs.Operations.{operation_in, session_operation_in};
 
 use crate::bodies::{
     access_in, batch_forget_in, destroy_in, flush_in, forget_in, fsync_in, getattr_in, init_in,
-    interrupt_in, lseek_in, open_in, opendir_in, read_in, readdir_in, release_in, releasedir_in,
-    setattr_in, statfs_in, write_in,
+    interrupt_in, lseek_in, open_in, opendir_in, read_in, readdir_in, readlink_in, release_in,
+    releasedir_in, setattr_in, statfs_in, write_in,
 };
 use crate::fault::{BodyFault, asked};
 use crate::named::{
-    create_in, link_in, lookup_in, mkdir_in, mknod_in, rename_in, rename2_in, rmdir_in, unlink_in,
+    create_in, link_in, lookup_in, mkdir_in, mknod_in, rename_in, rename2_in, rmdir_in, symlink_in,
+    unlink_in,
 };
 use crate::request::Operation;
 use heap::Heap;
@@ -23,6 +24,10 @@ const FORGET: u32 = 2;
 const GETATTR: u32 = 3;
 
 const SETATTR: u32 = 4;
+
+const READLINK: u32 = 5;
+
+const SYMLINK: u32 = 6;
 
 const MKNOD: u32 = 8;
 
@@ -100,6 +105,7 @@ fn node_operation_in(heap: Heap, opcode: u32, body: &[u8]) -> Result<Operation, 
     match opcode {
         GETATTR => asked(getattr_in(body)),
         SETATTR => asked(setattr_in(body)),
+        READLINK => asked(readlink_in(body)),
         STATFS => asked(statfs_in(body)),
         OPENDIR => asked(opendir_in(body)),
         READDIR => asked(readdir_in(body)),
@@ -132,6 +138,7 @@ pub(crate) fn operation_in(heap: Heap, opcode: u32, body: &[u8]) -> Result<Opera
 {
     match opcode {
         LOOKUP => lookup_in(heap, body),
+        SYMLINK => symlink_in(heap, body),
         MKNOD => mknod_in(heap, body),
         MKDIR => mkdir_in(heap, body),
         UNLINK => unlink_in(heap, body),

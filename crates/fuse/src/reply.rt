@@ -120,7 +120,7 @@ pub enum Reply {
         /// How many.
         size: u32,
     },
-    /// Bytes that were read.
+    /// Bytes that were read, or a link's target, without a zero byte.
     Data(Bytes),
     /// Entries of a directory, to `ReadDir`.
     Directory(Listing),

@@ -37,6 +37,8 @@ pub struct Changes {
     pub uid: Option<u32>,
     /// The group that it belongs to.
     pub gid: Option<u32>,
+    /// Whether set-user-ID and set-group-ID go with this length, or with this owner.
+    pub drops_set_ids: bool,
 }
 
 /// From where an offset counts.
@@ -83,11 +85,20 @@ pub enum Operation {
         /// Which ones, and to what.
         changes: Changes,
     },
-    /// Makes a file that is not opened.
+    /// Tells the target of the symbolic link.
+    ReadLink,
+    /// Makes a symbolic link.
+    SymLink {
+        /// Its name in the directory.
+        name: Bytes,
+        /// Its target: any text without a zero byte.
+        target: Bytes,
+    },
+    /// Makes what is not opened: a file, a FIFO, a socket or a device, as its mode tells.
     MkNod {
         /// Its name in the directory.
         name: Bytes,
-        /// Its kind and permissions.
+        /// Its kind and permissions: the kind is among the bits `MODE_KIND`.
         mode: u32,
     },
     /// Makes an empty directory.
@@ -97,7 +108,7 @@ pub enum Operation {
         /// Its permissions.
         mode: u32,
     },
-    /// Takes a name of a file away.
+    /// Takes a name away that gives no directory.
     Unlink {
         /// The name in the directory.
         name: Bytes,
@@ -118,9 +129,9 @@ pub enum Operation {
         /// The flags of `renameat2`: 1 to replace nothing, 2 to exchange the two.
         flags: u32,
     },
-    /// Gives a file a further name in the directory.
+    /// Gives what is no directory a further name in the directory.
     Link {
-        /// The file.
+        /// What gets it.
         node: u64,
         /// The further name.
         new_name: Bytes,
@@ -129,6 +140,8 @@ pub enum Operation {
     Open {
         /// The flags of `open`.
         flags: u32,
+        /// 1 where set-user-ID and set-group-ID go with bytes that are cut.
+        how: u32,
     },
     /// Makes a file and opens it.
     Create {
@@ -138,6 +151,8 @@ pub enum Operation {
         flags: u32,
         /// Its kind and permissions.
         mode: u32,
+        /// 1 where set-user-ID and set-group-ID go with bytes that are cut.
+        how: u32,
     },
     /// Reads bytes of an open file.
     Read {
@@ -156,7 +171,7 @@ pub enum Operation {
         handle: u64,
         /// Where they begin.
         offset: u64,
-        /// 1 for a write from the kernel's cache.
+        /// 1 for a write from the kernel's cache, and 4 where set-user-ID and set-group-ID go.
         write_flags: u32,
         /// The flags that it is open with.
         open_flags: u32,

@@ -17,7 +17,7 @@ static PRIORITIES: [&str; 8] = [" 0", " 0", " 0", " 0", " 0", " 0", " 1", " 7"];
 // make.
 type Start = (&'static str, u64, u64);
 
-static STARTS: [Start; 12] = [
+static STARTS: [Start; 15] = [
     ("", 0, 0),
     ("1 mkdir /a\n1 mkdir /b\n", 2, 0),
     (
@@ -38,6 +38,17 @@ static STARTS: [Start; 12] = [
     ("1 pipe\n1 write 1 abcde\n1 fork\n1 fork\n", 4, 2),
     ("1 pipe\n1 fill 1 3585 7a\n1 fork\n", 3, 1),
     ("1 pipe\n1 close 0\n1 open /f RDWR,CREAT\n", 3, 0),
+    (
+        "1 mkdir /a\n1 symlink a /b\n1 symlink /f /a/b\n1 fork\n",
+        4,
+        1,
+    ),
+    ("1 mknod /a fifo\n1 mknod /f socket\n1 symlink f /b\n", 3, 0),
+    (
+        "1 mkdir /a\n1 open /f RDWR,CREAT\n1 chmod /f 6755\n1 chown /a 1 2\n1 fork\n",
+        5,
+        1,
+    ),
 ];
 
 fn put_priorities(
@@ -117,7 +128,7 @@ fn fill(
     digits: &mut Vec<u8, Heap>,
 ) -> Result<(), AllocError> {
     let processes = 1 + random.below(6);
-    let start = &STARTS[random.below(12) as usize];
+    let start = &STARTS[random.below(15) as usize];
     put_priorities(&mut case.script, random, processes)?;
     put_start(case, random, start)?;
     put_lines(&mut case.script, random, processes + start.2, digits)?;

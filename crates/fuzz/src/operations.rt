@@ -17,13 +17,17 @@ enum Kind {
     Offset,
     Whence,
     Length,
+    Target,
+    Special,
+    Mode,
+    Id,
 }
 
 // An operation: its share among all, the words that are always the same, and what stands behind
 // them.
 type Form = (u64, &'static str, &'static [Kind]);
 
-static FORMS: [Form; 31] = [
+static FORMS: [Form; 39] = [
     (3, "begin", &[]),
     (3, "begin RESTART", &[]),
     (1, "begin ABORT_UNSUPPORTED", &[]),
@@ -54,6 +58,14 @@ static FORMS: [Form; 31] = [
     (5, "mkdir", &[Kind::Path]),
     (3, "rmdir", &[Kind::Path]),
     (3, "list", &[Kind::Path]),
+    (4, "symlink", &[Kind::Target, Kind::Path]),
+    (2, "readlink", &[Kind::Path]),
+    (2, "lstat", &[Kind::Path]),
+    (2, "mknod", &[Kind::Path, Kind::Special]),
+    (3, "chmod", &[Kind::Path, Kind::Mode]),
+    (3, "chown", &[Kind::Path, Kind::Id, Kind::Id]),
+    (2, "fchmod", &[Kind::Descriptor, Kind::Mode]),
+    (2, "fchown", &[Kind::Descriptor, Kind::Id, Kind::Id]),
     (2, "dup", &[Kind::Descriptor]),
     (2, "dup2", &[Kind::Descriptor, Kind::Descriptor]),
     (2, "pipe", &[]),
@@ -62,7 +74,7 @@ static FORMS: [Form; 31] = [
 ];
 
 // The sum of the shares.
-const SHARES: u64 = 82;
+const SHARES: u64 = 102;
 
 static PATHS: [&str; 32] = [
     "/", "/a", "/a", "/a", "/a", "/a", "/a", "/b", "/b", "/b", "/b", "/b", "/f", "/f", "/f", "/f",
@@ -106,6 +118,26 @@ static FILL_COUNTS: [&str; 14] = [
 ];
 
 static TEXTS: [&str; 7] = ["x", "hi", "abcde", "\\e", "pq\\x00r", "\\xff", "z"];
+
+static TARGETS: [&str; 9] = [
+    "a",
+    "/a",
+    "../b",
+    "/",
+    "no/such",
+    "->",
+    "\\xff\\x20",
+    "\\e",
+    "a\\x00b",
+];
+
+static SPECIALS: [&str; 3] = ["fifo", "fifo", "socket"];
+
+static MODES: [&str; 12] = [
+    "644", "644", "755", "600", "0", "7", "1777", "2750", "4711", "6755", "7777", "0640",
+];
+
+static IDS: [&str; 8] = ["-", "-", "0", "0", "1", "1000", "65534", "4294967295"];
 
 static BYTES: [&str; 3] = ["78", "00", "ff"];
 
@@ -165,6 +197,10 @@ fn words_of(kind: Kind) -> &'static [&'static str] {
         Kind::Offset => &OFFSETS,
         Kind::Whence => &WHENCES,
         Kind::Length => &LENGTHS,
+        Kind::Target => &TARGETS,
+        Kind::Special => &SPECIALS,
+        Kind::Mode => &MODES,
+        Kind::Id => &IDS,
     }
 }
 
@@ -185,11 +221,15 @@ fn form_of(random: &mut Random) -> &'static Form {
     &FORMS[0]
 }
 
-// A path whose name is too long, or one of the words of a kind.
+// A path whose name is too long, a target that is, or one of the words of a kind.
 fn put_kind(text: &mut Vec<u8, Heap>, random: &mut Random, kind: Kind) -> Result<(), AllocError> {
     if matches!(kind, Kind::Path) && random.once_in(100) {
         put_word(text, "/")?;
         return text.extend_from_slice(&[b'n'; 256]);
+    }
+    if matches!(kind, Kind::Target) && random.once_in(50) {
+        put_word(text, "t")?;
+        return text.extend_from_slice(&[b't'; 4095]);
     }
     put_word(text, random.pick(words_of(kind)))
 }

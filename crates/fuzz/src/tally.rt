@@ -5,7 +5,7 @@ use ids::{Call, Reply};
 use script::{ScheduleFault, ScriptFault};
 
 // The kinds of replies, the refusals first in the order of their numbers.
-pub(crate) static REPLIES: [&str; 27] = [
+pub(crate) static REPLIES: [&str; 29] = [
     "EAGAIN",
     "EBADF",
     "EBUSY",
@@ -13,12 +13,14 @@ pub(crate) static REPLIES: [&str; 27] = [
     "EFBIG",
     "EINVAL",
     "EISDIR",
+    "ELOOP",
     "EMFILE",
     "ENAMETOOLONG",
     "ENOENT",
     "ENOTDIR",
     "ENOTEMPTY",
     "ENOTSUP",
+    "ENXIO",
     "EPERM",
     "EPIPE",
     "ESPIPE",
@@ -38,25 +40,25 @@ pub(crate) static REPLIES: [&str; 27] = [
 fn kind_of(reply: &Reply) -> usize {
     match reply {
         Reply::Errno(errno) => *errno as usize,
-        Reply::Answer(_) => 16,
-        Reply::Begun => 17,
-        Reply::Committed => 18,
-        Reply::GivenUp { restarted: _ } => 19,
+        Reply::Answer(_) => 18,
+        Reply::Begun => 19,
+        Reply::Committed => 20,
+        Reply::GivenUp { restarted: _ } => 21,
         Reply::Aborted {
             why: _,
             restarted: _,
-        } => 20,
-        Reply::Busy(_) => 21,
-        Reply::InTransaction => 22,
-        Reply::NotInTransaction => 23,
-        Reply::HistoryFull => 24,
-        Reply::NoMemory => 25,
-        Reply::NoProcess => 26,
+        } => 22,
+        Reply::Busy(_) => 23,
+        Reply::InTransaction => 24,
+        Reply::NotInTransaction => 25,
+        Reply::HistoryFull => 26,
+        Reply::NoMemory => 27,
+        Reply::NoProcess => 28,
     }
 }
 
 // How many calls there are.
-const CALL_COUNT: usize = 22;
+const CALL_COUNT: usize = 30;
 
 // The calls, in the order of their indices.
 pub(crate) static CALLS: [&str; CALL_COUNT] = [
@@ -77,6 +79,14 @@ pub(crate) static CALLS: [&str; CALL_COUNT] = [
     "mkdir",
     "rmdir",
     "list",
+    "symlink",
+    "readlink",
+    "lstat",
+    "mknod",
+    "chmod",
+    "chown",
+    "fchmod",
+    "fchown",
     "dup",
     "dup2",
     "pipe",
@@ -106,11 +116,19 @@ fn index_of(call: &Call) -> usize
         Call::Mkdir(_) => 14,
         Call::Rmdir(_) => 15,
         Call::List(_) => 16,
-        Call::Dup(_) => 17,
-        Call::Dup2(_, _) => 18,
-        Call::Pipe => 19,
-        Call::Fork => 20,
-        Call::Exit => 21,
+        Call::Symlink(_, _) => 17,
+        Call::Readlink(_) => 18,
+        Call::Lstat(_) => 19,
+        Call::Mknod(_, _) => 20,
+        Call::Chmod(_, _) => 21,
+        Call::Chown(_, _) => 22,
+        Call::Fchmod(_, _) => 23,
+        Call::Fchown(_, _) => 24,
+        Call::Dup(_) => 25,
+        Call::Dup2(_, _) => 26,
+        Call::Pipe => 27,
+        Call::Fork => 28,
+        Call::Exit => 29,
     }
 }
 
@@ -136,7 +154,7 @@ pub(crate) struct Tally {
     pub(crate) refused: u64,
     pub(crate) left_out: u64,
     pub(crate) read: u64,
-    pub(crate) replies: [u64; 27],
+    pub(crate) replies: [u64; 29],
     // How often each call was answered, by its index.
     pub(crate) calls: [u64; CALL_COUNT],
     pub(crate) faults: [u64; 8],
@@ -158,7 +176,7 @@ impl Tally {
             refused: 0,
             left_out: 0,
             read: 0,
-            replies: [0; 27],
+            replies: [0; 29],
             calls: [0; CALL_COUNT],
             faults: [0; 8],
         }

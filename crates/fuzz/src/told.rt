@@ -16,10 +16,20 @@ fn put_step(told: &mut Case, pid: &str, step: &str) -> Result<(), AllocError> {
     told.list.extend_from_slice(pid.as_bytes())
 }
 
+// Cuts what a line tells at its arrow. Before that of a symlink its target may be an arrow too, and
+// behind that of a readlink.
+fn cut_at_arrow(told: &str) -> Option<(&str, &str)> {
+    if told.contains(" symlink ") {
+        told.rsplit_once(" -> ")
+    } else {
+        told.split_once(" -> ")
+    }
+}
+
 // Puts the step that a line of a transcript tells: `1 fork` of `4 P1 fork -> child 2`.
 fn put_told(told: &mut Case, line: &str) -> Result<(), AllocError> {
     if let Some((_, behind)) = line.split_once(" P")
-        && let Some((step, _)) = behind.split_once(" -> ")
+        && let Some((step, _)) = cut_at_arrow(behind)
         && let Some((pid, _)) = step.split_once(' ')
     {
         return put_step(told, pid, step);

@@ -5,7 +5,7 @@ use Rattle.std.specs.List.{Contains}
 use Rattle.std.proofs.lemmas.Bool.{cases_Bool, or_cases, and_parts, and_from, or_left, or_right, not-true, not_from_false, both_ways, false≢true, eqb-true, eqb-false, eq-eqb}
 use Rattle.model.specs.State.{Name}
 use Rattle.model.specs.Paths.{same_name}
-use Rattle.model.specs.Aspects.{Aspect, Entry, Names, Size, Block, Links, Ends, Offset, Front, Back}
+use Rattle.model.specs.Aspects.{Aspect, Entry, Names, Size, Block, Links, Ends, Offset, Front, Back, Target, Rights}
 use Rattle.model.specs.Calls.{Call}
 use Rattle.model.specs.Steps.{Touch}
 use Rattle.model.specs.Entries.{Cause, Do, Entry as OneEntry}
@@ -43,6 +43,8 @@ same_aspect_is (Ends d) (Ends e) h = ap Ends (eqb-true d e h)
 same_aspect_is (Offset d) (Offset e) h = ap Offset (eqb-true d e h)
 same_aspect_is (Front d) (Front e) h = ap Front (eqb-true d e h)
 same_aspect_is (Back d) (Back e) h = ap Back (eqb-true d e h)
+same_aspect_is (Target d) (Target e) h = ap Target (eqb-true d e h)
+same_aspect_is (Rights d) (Rights e) h = ap Rights (eqb-true d e h)
 same_aspect_is a b h = absurd (false≢true h)
 
 abbrev touch : Aspect → Bool → Touch

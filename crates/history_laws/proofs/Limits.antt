@@ -1,31 +1,34 @@
 -- States stay within the limits: each edit that a plan gives keeps them, so each step of a plain run does.
 use Rattle.std.proofs.Common.{◌≡◌, ℕ, suc, ◌+◌, ◌-◌, ◌<◌, ◌≤◌, ℤ, pos, negsuc, ◌+ℤ◌, Bool, true, false, cond, not, ◌&&◌, ◌||◌, List, [], ◌∷◌, ◌++◌, length, take, drop, min, max, if◌then◌else◌, Option, Some, None, Result, Ok, Err, IfOk, refl, sym, ap, subst, ◌∙◌, arith, inl, inr, ◌==◌, nat_lt, nat_le, nat_cmp, length-take, length-drop, length-append, ltb-false, leb-false}
 use Rattle.std.specs.Prelude.{⊤}
+use Rattle.std.specs.List.{list_any}
 use Rattle.std.proofs.lemmas.Bool.{cases_eq}
 use Rattle.model.specs.FiniteMap.{FinMap, get, empty, insert, remove, get-empty}
-use Rattle.model.specs.State.{A_file, A_directory, A_pipe, name_cmp, Kernel, names_of, Inode, File, Directory, Pipe, Description, file_of, pipe_of, file_of_inode, pipe_of_inode, offset_in, offset_of}
-use Rattle.model.specs.Plan.{Errno, Plan, Give, given, ◌>>=◌, answer, capacity, Fit, Count_ends, List_names, or_refuse, ENOENT, ENOTDIR, ENOTEMPTY, EEXIST, EBUSY, EPERM, EINVAL, EISDIR, EBADF, EAGAIN, EPIPE, EFBIG, ESPIPE}
+use Rattle.model.specs.State.{A_file, A_directory, A_pipe, A_link, A_fifo, A_socket, name_cmp, Kernel, names_of, Inode, File, Directory, Pipe, Fixed, Description, file_of, pipe_of, file_of_inode, pipe_of_inode, target_of_inode, offset_in, offset_of}
+use Rattle.model.specs.Plan.{Errno, Plan, Give, given, ◌>>=◌, answer, capacity, Fit, Count_ends, List_names, or_refuse, ENOENT, ENOTDIR, ENOTEMPTY, EEXIST, EBUSY, EPERM, EINVAL, EISDIR, EBADF, EAGAIN, EPIPE, EFBIG, ESPIPE, ELOOP, ENXIO, ENAMETOOLONG}
 use Rattle.model.specs.Paths.{is_empty, is_below}
-use Rattle.model.specs.Walks.{Place, parsed, walk, is_directory, Last, last_of}
-use Rattle.model.specs.Changes.{Mode, There, Made, Edit, Make_directory, Make_file, Name_file, Unname_file, Unname_directory, Move, Put_bytes, Cut, Take, Append, Set_offset, Open_inode, Make_pipe, Share_slot, Clear_slot, New_process, End_process, number, applied, all_applied, set_inode, clear_name, set_description, set_offset, at_offset, at_start, open_at, to_read, to_write, written, sized, is_held, tidy}
+use Rattle.model.specs.Walks.{Place, parsed, walk, is_directory, is_link, Last, last_of}
+use Rattle.model.specs.Changes.{Mode, There, Made, Edit, Make_directory, Make_file, Make_fixed, Name_file, Unname_file, Unname_directory, Move, Put_bytes, Cut, Take, Append, Set_offset, Set_rights, Open_inode, Make_pipe, Share_slot, Clear_slot, New_process, End_process, number, applied, all_applied, set_inode, clear_name, set_description, set_offset, at_offset, at_start, open_at, to_read, to_write, written, sized, is_held, tidy}
+use Rattle.ids.specs.Fixed.{fixed_target, special_object}
 use Rattle.ids.specs.Flags.{is_reading, is_writing, is_creating, is_exclusive, is_truncating}
-use Rattle.model.specs.Calls.{OpenFlags, Call, Open, Close, Read, Pread, Write, Pwrite, Lseek, Ftruncate, Truncate, Stat, Fstat, Link, Unlink, Rename, Mkdir, Rmdir, List_directory, Dup, Dup2, Open_pipe, Fork, Exit, Answer, Done, Descriptor, Count, New_place, Bytes, Slot, Own, own}
-use Rattle.model.specs.Plans.{Change, changed, unchanged, absent, status, slot, is_pipe, read_pipe, read_some, place_to_write, write_some, most_moved, room, offset_named, read_from, write_from, base, sought, replaced_by_name, moved, free, first_of_free, duplicated, piped, opened, mode, cut_to}
+use Rattle.model.specs.Calls.{OpenFlags, Call, Open, Close, Read, Pread, Write, Pwrite, Lseek, Ftruncate, Truncate, Stat, Fstat, Link, Unlink, Rename, Mkdir, Rmdir, List_directory, Symlink, Readlink, Lstat, Mknod, Chmod, Chown, Fchmod, Fchown, Dup, Dup2, Open_pipe, Fork, Exit, Answer, Done, Descriptor, Count, New_place, Bytes, Slot, Special, Special_fifo, Special_socket, Own, own}
+use Rattle.model.specs.Plans.{Change, changed, unchanged, absent, status, is_special, slot, is_pipe, read_pipe, read_some, place_to_write, write_some, most_moved, room, offset_named, read_from, write_from, base, sought, replaced_by_name, moved, free, first_of_free, duplicated, piped, opened, mode, cut_to}
 use Rattle.model.specs.Steps.{outcome, edits, edits_of, Step, Item, Run}
 use Rattle.model.specs.Moments.{Setup, start, after}
 use Rattle.call_laws.proofs.Laws.{the_largest_file_stays, get_retained, reached, get_tidy, write_pipe, put_at, after_bind, whatever, allowed, either_given}
 use Rattle.model.proofs.Laws.{length-sized, length-written, get_same, get_other}
 use Rattle.history_laws.proofs.FromCallLaws.{FromCallLaws}
-use Rattle.history_laws.specs.Limits.{most_processes, IsWithinLimits, LimitsAreKept}
+use Rattle.history_laws.specs.Limits.{most_processes, target_limit, IsWithinLimits, LimitsAreKept}
 use Rattle.history_laws.proofs.Beginnings.{legality_follows}
 use Rattle.history_laws.proofs.Histories.{serial_is}
 
 -- what keeps a state within the limits: new inodes, new descriptions, new processes
-set_within : (k : Kernel) (n : ℕ) (inode : Inode) → length (file_of_inode (Some inode)) ≤ k.largest → length (pipe_of_inode (Some inode)) ≤ capacity → IsWithinLimits k → IsWithinLimits (set_inode n inode k)
-set_within k n inode file pipe w = record {
+set_within : (k : Kernel) (n : ℕ) (inode : Inode) → length (file_of_inode (Some inode)) ≤ k.largest → length (pipe_of_inode (Some inode)) ≤ capacity → length (target_of_inode (Some inode)) ≤ target_limit → IsWithinLimits k → IsWithinLimits (set_inode n inode k)
+set_within k n inode file pipe target w = record {
   made = w.made;
   files = λ t. at t (λ o. length (file_of_inode o) ≤ k.largest) file (w.files t);
   pipes = λ t. at t (λ o. length (pipe_of_inode o) ≤ capacity) pipe (w.pipes t);
+  targets = λ t. at t (λ o. length (target_of_inode o) ≤ target_limit) target (w.targets t);
   offsets = w.offsets;
 }
   where
@@ -40,6 +43,7 @@ describe_within k d it low w = record {
   made = w.made;
   files = w.files;
   pipes = w.pipes;
+  targets = w.targets;
   offsets = λ t. elim (cases_eq t d) [
     | inl same ↦ subst (λ (o : Option Description). offset_in o ≤ k.largest) (sym (ap (get (insert k.descriptions d it)) same ∙ get_same k.descriptions d it)) low
     | inr away ↦ subst (λ (o : Option Description). offset_in o ≤ k.largest) (sym (get_other k.descriptions d t it away)) (w.offsets t)
@@ -47,10 +51,11 @@ describe_within k d it low w = record {
 }
 
 open_within : (k : Kernel) (d n : ℕ) (mode : Mode) (pid f : ℕ) → IsWithinLimits k → IsWithinLimits (open_at d n mode pid f k)
-open_within k d n mode pid f w = let v = describe_within k d (at_start n mode) (omega arith) w in record { made = v.made; files = v.files; pipes = v.pipes; offsets = v.offsets }
+open_within k d n mode pid f w = let v = describe_within k d (at_start n mode) (omega arith) w in record { made = v.made; files = v.files; pipes = v.pipes; targets = v.targets; offsets = v.offsets }
 
 -- what an edit asks, so that it keeps within the limits
 abbrev Within : Kernel → Edit → Type 0
+Within k (Make_fixed d x fixed i) = length (fixed_target fixed) ≤ target_limit
 Within k (Put_bytes n place bytes before) = place + length bytes ≤ k.largest
 Within k (Cut n before after) = after ≤ k.largest
 Within k (Append p bytes) = length (pipe_of k p) + length bytes ≤ capacity
@@ -67,7 +72,7 @@ offset_within k d place None low w = w
 offset_within k d place (Some it) low w = describe_within k d (at_offset place it) low w
 
 names_within : (k : Kernel) (d : ℕ) (names : FinMap name_cmp ℕ) → IsWithinLimits k → IsWithinLimits (set_inode d (Directory names) k)
-names_within k d names w = set_within k d (Directory names) (omega arith) (omega arith) w
+names_within k d names w = set_within k d (Directory names) (omega arith) (omega arith) (omega arith) w
 
 edit_within : (chosen : List ℕ) (k : Kernel) (e : Edit) → IsWithinLimits k → Within k e → IsWithinLimits (applied chosen e k)
 unfolding applied
@@ -76,7 +81,10 @@ edit_within chosen k (Make_directory d x i) w h =
     names_within made d (insert (names_of made d) x (number chosen (Made i))) (names_within k (number chosen (Made i)) empty w)
 edit_within chosen k (Make_file d x i) w h =
     let made : Kernel = set_inode (number chosen (Made i)) (File []) k in
-    names_within made d (insert (names_of made d) x (number chosen (Made i))) (set_within k (number chosen (Made i)) (File []) (omega arith) (omega arith) w)
+    names_within made d (insert (names_of made d) x (number chosen (Made i))) (set_within k (number chosen (Made i)) (File []) (omega arith) (omega arith) (omega arith) w)
+edit_within chosen k (Make_fixed d x fixed i) w h =
+    let made : Kernel = set_inode (number chosen (Made i)) (Fixed fixed) k in
+    names_within made d (insert (names_of made d) x (number chosen (Made i))) (set_within k (number chosen (Made i)) (Fixed fixed) (omega arith) (omega arith) h w)
 edit_within chosen k (Name_file d x n) w h = names_within k d (insert (names_of k d) x n) w
 edit_within chosen k (Unname_file d x n) w h = names_within k d (remove (names_of k d) x) w
 edit_within chosen k (Unname_directory d x n) w h = names_within k d (remove (names_of k d) x) w
@@ -85,27 +93,28 @@ edit_within chosen k (Put_bytes n place bytes before) w h =
     let long : length (written (file_of k n) place bytes) ≡ max (length (file_of k n)) (place + length bytes) = length-written (file_of k n) place bytes in
     let old : length (file_of k n) ≤ k.largest = w.files n in
     let new : place + length bytes ≤ k.largest = h in
-    set_within k n (File (written (file_of k n) place bytes)) (omega arith) (omega arith) w
+    set_within k n (File (written (file_of k n) place bytes)) (omega arith) (omega arith) (omega arith) w
 edit_within chosen k (Cut n before after) w h =
     let long : length (sized after (file_of k n)) ≡ after = length-sized after (file_of k n) in
     let low : after ≤ k.largest = h in
-    set_within k n (File (sized after (file_of k n))) (omega arith) (omega arith) w
+    set_within k n (File (sized after (file_of k n))) (omega arith) (omega arith) (omega arith) w
 edit_within chosen k (Take p count) w h =
     let old : length (pipe_of k p) ≤ capacity = w.pipes p in
-    set_within k p (Pipe (drop count (pipe_of k p))) (omega arith) (omega (arith, length-drop count (pipe_of k p))) w
+    set_within k p (Pipe (drop count (pipe_of k p))) (omega arith) (omega (arith, length-drop count (pipe_of k p))) (omega arith) w
 edit_within chosen k (Append p bytes) w h =
     let low : length (pipe_of k p) + length bytes ≤ capacity = h in
-    set_within k p (Pipe (pipe_of k p ++ bytes)) (omega arith) (omega (arith, length-append (pipe_of k p) bytes)) w
+    set_within k p (Pipe (pipe_of k p ++ bytes)) (omega arith) (omega (arith, length-append (pipe_of k p) bytes)) (omega arith) w
 edit_within chosen k (Set_offset d place) w h = offset_within k d place (get k.descriptions d) h w
+edit_within chosen k (Set_rights n rights) w h = record { made = w.made; files = w.files; pipes = w.pipes; targets = w.targets; offsets = w.offsets }
 edit_within chosen k (Open_inode i inode mode pid f) w h = open_within k (number chosen (Made i)) (number chosen inode) mode pid f w
 edit_within chosen k (Make_pipe i pid f g) w h =
     let made : Kernel = set_inode (number chosen (Made i)) (Pipe []) k in
     open_within (open_at (number chosen (Made (i + 1))) (number chosen (Made i)) to_read pid f made) (number chosen (Made (i + 2))) (number chosen (Made i)) to_write pid g
-    (open_within made (number chosen (Made (i + 1))) (number chosen (Made i)) to_read pid f (set_within k (number chosen (Made i)) (Pipe []) (omega arith) (omega arith) w))
-edit_within chosen k (Share_slot pid f d pipes) w h = record { made = w.made; files = w.files; pipes = w.pipes; offsets = w.offsets }
-edit_within chosen k (Clear_slot pid f pipes) w h = record { made = w.made; files = w.files; pipes = w.pipes; offsets = w.offsets }
-edit_within chosen k (New_process child parent pipes) w h = record { made = h; files = w.files; pipes = w.pipes; offsets = w.offsets }
-edit_within chosen k (End_process pid pipes) w h = record { made = w.made; files = w.files; pipes = w.pipes; offsets = w.offsets }
+    (open_within made (number chosen (Made (i + 1))) (number chosen (Made i)) to_read pid f (set_within k (number chosen (Made i)) (Pipe []) (omega arith) (omega arith) (omega arith) w))
+edit_within chosen k (Share_slot pid f d pipes) w h = record { made = w.made; files = w.files; pipes = w.pipes; targets = w.targets; offsets = w.offsets }
+edit_within chosen k (Clear_slot pid f pipes) w h = record { made = w.made; files = w.files; pipes = w.pipes; targets = w.targets; offsets = w.offsets }
+edit_within chosen k (New_process child parent pipes) w h = record { made = h; files = w.files; pipes = w.pipes; targets = w.targets; offsets = w.offsets }
+edit_within chosen k (End_process pid pipes) w h = record { made = w.made; files = w.files; pipes = w.pipes; targets = w.targets; offsets = w.offsets }
 
 edits_within : (chosen : List ℕ) (es : List Edit) (k : Kernel) → IsWithinLimits k → AllWithin chosen k es → IsWithinLimits (all_applied chosen es k)
 edits_within chosen [] k w h = w
@@ -125,6 +134,7 @@ tidied_within k w = record {
   made = subst (λ made. made ≤ most_processes) (sym (tidy_made k)) w.made;
   files = λ n. subst (λ most. length (file_of (tidy k) n) ≤ most) (sym (the_largest_file_stays.tidied k)) (subst (λ (o : Option Inode). length (file_of_inode o) ≤ k.largest) (sym (get_tidy k n)) (by_file n (reached k n)));
   pipes = λ n. subst (λ (o : Option Inode). length (pipe_of_inode o) ≤ capacity) (sym (get_tidy k n)) (by_pipe n (reached k n));
+  targets = λ n. subst (λ (o : Option Inode). length (target_of_inode o) ≤ target_limit) (sym (get_tidy k n)) (by_target n (reached k n));
   offsets = λ d. subst (λ most. offset_of (tidy k) d ≤ most) (sym (the_largest_file_stays.tidied k)) (subst (λ (o : Option Description). offset_in o ≤ k.largest) (sym (tidy_description k d)) (by_offset d (is_held k d)));
 }
   where
@@ -136,19 +146,24 @@ tidied_within k w = record {
     by_pipe n true = w.pipes n
     by_pipe n false = omega arith
 
+    by_target : (n : ℕ) (b : Bool) → length (target_of_inode (cond b (get k.inodes n) None)) ≤ target_limit
+    by_target n true = w.targets n
+    by_target n false = omega arith
+
     by_offset : (d : ℕ) (b : Bool) → offset_in (cond b (get k.descriptions d) None) ≤ k.largest
     by_offset d true = w.offsets d
     by_offset d false = omega arith
 
 -- before any entry
 start_within : (root : ℕ) (setup : Setup) → length setup.priorities ≤ most_processes → IsWithinLimits (start root setup)
-start_within root setup few = let bare = names_within (record (start root setup) { inodes = empty }) root empty none in record { made = bare.made; files = bare.files; pipes = bare.pipes; offsets = bare.offsets }
+start_within root setup few = let bare = names_within (record (start root setup) { inodes = empty }) root empty none in record { made = bare.made; files = bare.files; pipes = bare.pipes; targets = bare.targets; offsets = bare.offsets }
   where
     none : IsWithinLimits (record (start root setup) { inodes = empty })
     none = record {
       made = few;
       files = λ n. subst (λ (o : Option Inode). length (file_of_inode o) ≤ setup.largest) (sym (get-empty nat_cmp n)) (omega arith);
       pipes = λ n. subst (λ (o : Option Inode). length (pipe_of_inode o) ≤ capacity) (sym (get-empty nat_cmp n)) (omega arith);
+      targets = λ n. subst (λ (o : Option Inode). length (target_of_inode o) ≤ target_limit) (sym (get-empty nat_cmp n)) (omega arith);
       offsets = λ d. subst (λ (o : Option Description). offset_in o ≤ setup.largest) (sym (get-empty nat_cmp d)) (omega arith);
     }
 
@@ -161,7 +176,9 @@ module _ (k : Kernel) (w : IsWithinLimits k) (chosen : List ℕ) where
   opened_within o flags f at None = allowed k Fine (not (is_creating flags)) ENOENT _ (λ _. (tt, (tt, tt)))
   opened_within o flags f at (Some place) =
       allowed k Fine (is_creating flags && is_exclusive flags) EEXIST _ (λ _.
-      allowed k Fine (is_directory place) EISDIR _ (λ _. by_test (is_truncating flags)))
+      allowed k Fine (is_directory place) EISDIR _ (λ _.
+      allowed k Fine (is_link place) ELOOP _ (λ _.
+      allowed k Fine (is_special place) ENXIO _ (λ _. by_test (is_truncating flags)))))
     where
       by_test : (b : Bool) → IfOk (given k ((if b then cut_to place.0 0 else Give []) >>= (λ cut. changed (Descriptor f) (cut ++ Open_inode 0 (There place.0) (mode flags) o.pid f ∷ [])))) Fine
       by_test true = (omega arith, (tt, tt))
@@ -171,6 +188,9 @@ module _ (k : Kernel) (w : IsWithinLimits k) (chosen : List ℕ) where
   status_within (n, Some A_file) = tt
   status_within (n, Some A_directory) = tt
   status_within (n, Some A_pipe) = tt
+  status_within (n, Some A_link) = tt
+  status_within (n, Some A_fifo) = tt
+  status_within (n, Some A_socket) = tt
   status_within (n, None) = tt
 
   read_pipe_within : (p : ℕ) (bytes : List ℕ) → IfOk (given k (read_pipe p bytes)) Fine
@@ -239,6 +259,11 @@ module _ (k : Kernel) (w : IsWithinLimits k) (chosen : List ℕ) where
       allowed k Fine (is_directory what && not (is_directory old)) ENOTDIR _ (λ _.
       after_bind k Fine (replaced_by_name old.0 (is_directory old)) _ (whatever (given k (replaced_by_name old.0 (is_directory old))) (λ replaced. (tt, tt))))))
 
+  -- a FIFO and a socket have no target
+  special_within : (special : Special) → length (fixed_target (special_object special)) ≤ target_limit
+  special_within Special_fifo = omega arith
+  special_within Special_socket = omega arith
+
   absent_within : (o : Option Place) (c : Change) → Fine c → IfOk (given k (absent o >>= (λ _. Give c))) Fine
   absent_within None c h = h
   absent_within (Some place) c h = tt
@@ -292,8 +317,10 @@ module _ (k : Kernel) (w : IsWithinLimits k) (chosen : List ℕ) where
       goes_on (parsed path) _ (λ names.
       goes_on (walk (k.root, Some A_directory) names) _ (λ place.
       allowed k Fine (is_directory place) EISDIR _ (λ _.
-      allowed k Fine (nat_lt k.largest len) EFBIG (cut_to place.0 len >>= (λ cut. changed Done cut)) (λ low. (ltb-false k.largest len low, tt)))))
-  call_within pid (Stat path) = goes_on (parsed path) _ (λ names. goes_on (walk (k.root, Some A_directory) names) _ status_within)
+      allowed k Fine (is_link place) ELOOP _ (λ _.
+      allowed k Fine (is_special place) EINVAL _ (λ _.
+      allowed k Fine (nat_lt k.largest len) EFBIG (cut_to place.0 len >>= (λ cut. changed Done cut)) (λ low. (ltb-false k.largest len low, tt)))))))
+  call_within pid (Stat path) = goes_on (parsed path) _ (λ names. goes_on (walk (k.root, Some A_directory) names) _ (λ place. allowed k Fine (is_link place) ELOOP _ (λ _. status_within place)))
   call_within pid (Fstat f) = goes_on (slot (own k pid (Fstat f)) f) _ (λ s. status_within (s.inode, s.kind))
   call_within pid (Link old path) =
       goes_on (parsed old) _ (λ from.
@@ -326,7 +353,26 @@ module _ (k : Kernel) (w : IsWithinLimits k) (chosen : List ℕ) where
   call_within pid (List_directory path) =
       goes_on (parsed path) _ (λ names.
       goes_on (walk (k.root, Some A_directory) names) _ (λ place.
-      allowed k Fine (not (is_directory place)) ENOTDIR _ (λ _. tt)))
+      allowed k Fine (is_link place) ELOOP _ (λ _.
+      allowed k Fine (not (is_directory place)) ENOTDIR _ (λ _. tt))))
+  call_within pid (Symlink target path) =
+      allowed k Fine (is_empty target) ENOENT _ (λ _.
+      allowed k Fine (nat_lt target_limit (length target)) ENAMETOOLONG _ (λ low.
+      allowed k Fine (list_any (λ b. b == 0) target) EINVAL _ (λ _.
+      goes_on (parsed path) _ (λ names.
+      goes_on (last_of k.root EEXIST names) _ (λ at. absent_within at.found _ (ltb-false target_limit (length target) low, tt))))))
+  call_within pid (Readlink path) =
+      goes_on (parsed path) _ (λ names.
+      goes_on (walk (k.root, Some A_directory) names) _ (λ place.
+      allowed k Fine (not (is_link place)) EINVAL _ (λ _. tt)))
+  call_within pid (Lstat path) = goes_on (parsed path) _ (λ names. goes_on (walk (k.root, Some A_directory) names) _ status_within)
+  call_within pid (Mknod path special) =
+      goes_on (parsed path) _ (λ names.
+      goes_on (last_of k.root EEXIST names) _ (λ at. absent_within at.found _ (special_within special, tt)))
+  call_within pid (Chmod path permissions) = goes_on (parsed path) _ (λ names. goes_on (walk (k.root, Some A_directory) names) _ (λ place. allowed k Fine (is_link place) ELOOP _ (λ _. (tt, tt))))
+  call_within pid (Chown path owner) = goes_on (parsed path) _ (λ names. goes_on (walk (k.root, Some A_directory) names) _ (λ place. (tt, tt)))
+  call_within pid (Fchmod f permissions) = goes_on (slot (own k pid (Fchmod f permissions)) f) _ (λ s. (tt, tt))
+  call_within pid (Fchown f owner) = goes_on (slot (own k pid (Fchown f owner)) f) _ (λ s. (tt, tt))
   call_within pid (Dup f) = goes_on (slot (own k pid (Dup f)) f) _ (λ s. duplicated_within (own k pid (Dup f)) s (free (own k pid (Dup f))))
   call_within pid (Dup2 f g) = goes_on (slot (own k pid (Dup2 f g)) f) _ (λ s.
       allowed k Fine (nat_lt 63 g) EBADF _ (λ _.

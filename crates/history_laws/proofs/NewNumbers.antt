@@ -64,7 +64,7 @@ above_table process = above_values process.table
 
 -- a number above all that a state has
 pub above : Kernel → ℕ
-above k = (above_keys (entries k.inodes) + above_keys (entries k.descriptions)) + (weights above_names (entries k.inodes) + weights above_table (entries k.processes))
+above k = (above_keys (entries k.inodes) + above_keys (entries k.rights) + above_keys (entries k.descriptions)) + (weights above_names (entries k.inodes) + weights above_table (entries k.processes))
 
 nothing : {n : ℕ} → ◌≡◌ {A = Option ℕ} None (Some n) → ⊥
 nothing e = absurd cc
@@ -91,6 +91,7 @@ pub above_nowhere : (k : Kernel) (n : ℕ) → above k ≤ n → IsNowhere k n
 unfolding above
 above_nowhere k n h = record {
   inode = get-entries k.inodes n ∙ not_found (entries k.inodes) n (omega arith);
+  rights = get-entries k.rights n ∙ not_found (entries k.rights) n (omega arith);
   description = get-entries k.descriptions n ∙ not_found (entries k.descriptions) n (omega arith);
   unnamed = unnamed_above k n (omega arith);
   unheld = unheld_above k n (omega arith);

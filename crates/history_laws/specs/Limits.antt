@@ -1,20 +1,22 @@
--- The plain kernel's limits are never passed: fork, write, ftruncate and lseek refuse what would
--- pass them (EAGAIN, EFBIG and EINVAL of POSIX.1-2017, which leaves the numbers to the
--- implementation).
+-- The plain kernel's limits are never passed: fork, write, ftruncate, lseek and symlink refuse what
+-- would pass them (EAGAIN, EFBIG, EINVAL and ENAMETOOLONG of POSIX.1-2017, which leaves the numbers
+-- to the implementation).
 use Rattle.std.specs.Prelude.{◌≡◌, ℕ, ◌≤◌, List, length}
-use Rattle.model.specs.State.{Kernel, file_of, pipe_of, offset_of}
-pub use Rattle.model.specs.Limits.{most_processes, capacity}
+use Rattle.model.specs.State.{Kernel, file_of, pipe_of, target_of, offset_of}
+pub use Rattle.model.specs.Limits.{most_processes, capacity, target_limit}
 use Rattle.model.specs.Entries.{Entry}
 use Rattle.model.specs.Forgetting.{Limit}
 use Rattle.model.specs.Moments.{Setup, Moment, after, seen_by}
 use Rattle.model.specs.Legal.{Legal}
 
 -- At most 4,096 processes were ever made, each file has at most the bytes that the kernel lets one
--- have, each pipe at most 4,096, and no offset is past the largest file.
+-- have, each pipe at most 4,096, each symbolic link's target at most 4,095, and no offset is past the
+-- largest file.
 pub record IsWithinLimits (k : Kernel) : Type 0 where
   pub made : k.made ≤ most_processes
   pub files : (n : ℕ) → length (file_of k n) ≤ k.largest
   pub pipes : (p : ℕ) → length (pipe_of k p) ≤ capacity
+  pub targets : (n : ℕ) → length (target_of k n) ≤ target_limit
   pub offsets : (d : ℕ) → offset_of k d ≤ k.largest
 
 -- what is committed, and what each process sees

@@ -1,4 +1,6 @@
 pub mod Errnos
+pub mod Fixed
 pub mod Flags
 pub mod Forms
 pub mod Order
+pub mod Rights

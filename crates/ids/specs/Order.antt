@@ -11,7 +11,7 @@ use Rattle.std.proofs.lemmas.Cmp.{nat_list_cmp_total, on_total}
 use Rattle.std.proofs.lemmas.Map.Lookups.{exact_bytes}
 use Rattle.ids.specs.declared.aspect.Aspect.{Aspect}
 use Rattle.ids.specs.declared.aspect.Aspect.TheVariants.{Entry, Names, Size, Block, Links, Ends}
-use Rattle.ids.specs.declared.aspect.Aspect.TheVariants.{Offset, Front, Back}
+use Rattle.ids.specs.declared.aspect.Aspect.TheVariants.{Offset, Front, Back, Target, Rights}
 
 -- the number of the object
 abbrev pub object_of : Aspect → ℕ
@@ -24,6 +24,8 @@ object_of (Ends p) = p
 object_of (Offset d) = d
 object_of (Front p) = p
 object_of (Back p) = p
+object_of (Target n) = n
+object_of (Rights n) = n
 
 -- which part of the object it is
 abbrev pub kind_of : Aspect → ℕ
@@ -36,6 +38,8 @@ kind_of (Ends p) = 5
 kind_of (Offset d) = 6
 kind_of (Front p) = 7
 kind_of (Back p) = 8
+kind_of (Target n) = 9
+kind_of (Rights n) = 10
 
 -- the block, 0 for what has none
 abbrev pub block_of : Aspect → ℕ
@@ -48,6 +52,8 @@ block_of (Ends p) = 0
 block_of (Offset d) = 0
 block_of (Front p) = 0
 block_of (Back p) = 0
+block_of (Target n) = 0
+block_of (Rights n) = 0
 
 -- the name of an entry, empty for what has none
 abbrev pub name_of : Aspect → List ℕ
@@ -60,6 +66,8 @@ name_of (Ends p) = []
 name_of (Offset d) = []
 name_of (Front p) = []
 name_of (Back p) = []
+name_of (Target n) = []
+name_of (Rights n) = []
 
 -- an aspect as a list of numbers
 abbrev pub aspect_code : Aspect → List ℕ

@@ -26,7 +26,7 @@ pub enum Aspect {
     Size(Num),
     /// A file's 1,024 bytes from 1,024 times the second number.
     Block(Num, u32),
-    /// How many names give a file.
+    /// How many names give a file, or anything else that is no directory.
     Links(Num),
     /// How many descriptors are open on either end of a pipe.
     Ends(Num),
@@ -36,6 +36,10 @@ pub enum Aspect {
     Front(Num),
     /// What a writer adds to a pipe.
     Back(Num),
+    /// The target of a symbolic link.
+    Target(Num),
+    /// The permissions and the owner of an object.
+    Rights(Num),
 }
 
 impl Drop for Aspect {
@@ -50,6 +54,8 @@ impl Drop for Aspect {
             Aspect::Offset(_) => {}
             Aspect::Front(_) => {}
             Aspect::Back(_) => {}
+            Aspect::Target(_) => {}
+            Aspect::Rights(_) => {}
         }
     }
 }
@@ -69,6 +75,8 @@ impl Aspect {
             Aspect::Offset(description) => Ok(Aspect::Offset(*description)),
             Aspect::Front(pipe) => Ok(Aspect::Front(*pipe)),
             Aspect::Back(pipe) => Ok(Aspect::Back(*pipe)),
+            Aspect::Target(link) => Ok(Aspect::Target(*link)),
+            Aspect::Rights(inode) => Ok(Aspect::Rights(*inode)),
         }
     }
 
@@ -86,6 +94,8 @@ impl Aspect {
             Aspect::Offset(description) => description.0,
             Aspect::Front(pipe) => pipe.0,
             Aspect::Back(pipe) => pipe.0,
+            Aspect::Target(link) => link.0,
+            Aspect::Rights(inode) => inode.0,
         }
     }
 
@@ -103,6 +113,8 @@ impl Aspect {
             Aspect::Offset(_) => 6,
             Aspect::Front(_) => 7,
             Aspect::Back(_) => 8,
+            Aspect::Target(_) => 9,
+            Aspect::Rights(_) => 10,
         }
     }
 

@@ -2,8 +2,10 @@
 ghost use Rattle.std.specs.Prelude.{◌≡◌, IfOk};
 
 use crate::bytes::Bytes;
+use crate::fixed::Special;
 use crate::flags::{BeginFlags, OpenFlags};
 use crate::number::Fd;
+use crate::rights::{NewOwner, Permissions};
 use std::alloc::AllocError;
 
 /// From where `lseek` counts.
@@ -17,7 +19,9 @@ pub enum Whence {
     End,
 }
 
-/// A call (POSIX.1-2017, by the function of each name). Paths are bytes as they were given.
+/// A call (POSIX.1-2017, by the function of each name). Paths are bytes as they were given. No walk
+/// goes on by a symbolic link: where one is in the way, the call is refused. Nothing is refused by
+/// permissions: whoever has the kernel is its superuser.
 #[derive(Debug)]
 pub enum Call {
     /// Opens the file of a path.
@@ -38,13 +42,13 @@ pub enum Call {
     Ftruncate(Fd, u32),
     /// Cuts or grows the file of a path to a length.
     Truncate(Bytes, u32),
-    /// Tells about the object of a path.
+    /// Tells about the object of a path, which is no symbolic link.
     Stat(Bytes),
     /// Tells about the object of a descriptor.
     Fstat(Fd),
-    /// Gives the file of the first path the second path too.
+    /// Gives the object of the first path, which is no directory, the second path too.
     Link(Bytes, Bytes),
-    /// Takes a file's name away.
+    /// Takes a name away that gives no directory.
     Unlink(Bytes),
     /// Moves what the first path gives to the second.
     Rename(Bytes, Bytes),
@@ -54,6 +58,22 @@ pub enum Call {
     Rmdir(Bytes),
     /// Lists the names of a directory.
     List(Bytes),
+    /// Makes a symbolic link: its target, and its path.
+    Symlink(Bytes, Bytes),
+    /// Tells the target of a symbolic link.
+    Readlink(Bytes),
+    /// Tells about the object of a path, also of a symbolic link.
+    Lstat(Bytes),
+    /// Makes a FIFO or a socket.
+    Mknod(Bytes, Special),
+    /// Sets the permissions of the object of a path, which is no symbolic link.
+    Chmod(Bytes, Permissions),
+    /// Sets the owner of the object of a path, also of a symbolic link (`lchown`).
+    Chown(Bytes, NewOwner),
+    /// Sets the permissions of the object of a descriptor.
+    Fchmod(Fd, Permissions),
+    /// Sets the owner of the object of a descriptor.
+    Fchown(Fd, NewOwner),
     /// Shares a description with the lowest free descriptor.
     Dup(Fd),
     /// Shares the first one's description with the second.
@@ -86,6 +106,14 @@ impl Drop for Call {
             Call::Mkdir(_) => {}
             Call::Rmdir(_) => {}
             Call::List(_) => {}
+            Call::Symlink(_, _) => {}
+            Call::Readlink(_) => {}
+            Call::Lstat(_) => {}
+            Call::Mknod(_, _) => {}
+            Call::Chmod(_, _) => {}
+            Call::Chown(_, _) => {}
+            Call::Fchmod(_, _) => {}
+            Call::Fchown(_, _) => {}
             Call::Dup(_) => {}
             Call::Dup2(_, _) => {}
             Call::Pipe => {}
@@ -124,6 +152,17 @@ impl Call {
             Call::Mkdir(path) => Ok(Call::Mkdir(path.try_clone()?)),
             Call::Rmdir(path) => Ok(Call::Rmdir(path.try_clone()?)),
             Call::List(path) => Ok(Call::List(path.try_clone()?)),
+            Call::Symlink(target, path) => {
+                let (target, path) = paths_copied(target, path)?;
+                Ok(Call::Symlink(target, path))
+            }
+            Call::Readlink(path) => Ok(Call::Readlink(path.try_clone()?)),
+            Call::Lstat(path) => Ok(Call::Lstat(path.try_clone()?)),
+            Call::Mknod(path, special) => Ok(Call::Mknod(path.try_clone()?, *special)),
+            Call::Chmod(path, permissions) => Ok(Call::Chmod(path.try_clone()?, *permissions)),
+            Call::Chown(path, owner) => Ok(Call::Chown(path.try_clone()?, *owner)),
+            Call::Fchmod(fd, permissions) => Ok(Call::Fchmod(*fd, *permissions)),
+            Call::Fchown(fd, owner) => Ok(Call::Fchown(*fd, *owner)),
             Call::Dup(fd) => Ok(Call::Dup(*fd)),
             Call::Dup2(old, new) => Ok(Call::Dup2(*old, *new)),
             Call::Pipe => Ok(Call::Pipe),
@@ -133,7 +172,8 @@ impl Call {
     }
 }
 
-// Copies of two paths on the same allocators. Refused memory changes nothing.
+// Copies of two paths, or of a target and a path, on the same allocators. Refused memory changes
+// nothing.
 fn paths_copied(old: &Bytes, new: &Bytes) -> Result<(Bytes, Bytes), AllocError>
     ensures { IfOk result (λ copies. (copies.0 ≡ old.now) × (copies.1 ≡ new.now)) }
 {

@@ -15,6 +15,9 @@ pub const PATH_LIMIT: usize = 1024;
 /// The most bytes that a name may have.
 pub const NAME_LIMIT: usize = 255;
 
+/// The most bytes that the target of a symbolic link may have.
+pub const TARGET_LIMIT: usize = 4095;
+
 /// The most bytes that a file can have at all, and so the largest offset: what the layers below hold. A
 /// kernel has a number of its own, at most this ([`Limits::file_bytes`]).
 pub const LARGEST_FILE: usize = 2_147_483_647;

@@ -5,6 +5,7 @@ use crate::aspect::{Cause, Why};
 use crate::bytes::{Bytes, NameList};
 use crate::errno::Errno;
 use crate::number::{Fd, Num, Pid};
+use crate::rights::Rights;
 use std::alloc::AllocError;
 
 /// What kind of object a number stands for.
@@ -16,19 +17,27 @@ pub enum Kind {
     Dir,
     /// A pipe.
     Pipe,
+    /// A symbolic link.
+    Link,
+    /// A FIFO, which is a name and has no content.
+    Fifo,
+    /// A socket, which is a name and has no content.
+    Socket,
 }
 
-/// What `stat` and `fstat` tell (POSIX.1-2017, sys/stat.h).
+/// What `stat`, `lstat` and `fstat` tell (POSIX.1-2017, sys/stat.h).
 #[derive(Clone, Copy, Debug, PartialEq, Eq)]
 pub struct Stat {
     /// The object's kind.
     pub kind: Kind,
     /// Its number.
     pub num: Num,
-    /// A file's length, else 0.
+    /// A file's length, or that of a symbolic link's target, else 0.
     pub size: u32,
-    /// How many names give a file; 1 for a directory, 0 for a pipe.
+    /// How many names give it; 1 for a directory, 0 for a pipe.
     pub links: u32,
+    /// Its permissions and its owner.
+    pub rights: Rights,
 }
 
 /// What a call answers that is not refused.
@@ -42,7 +51,7 @@ pub enum Answer {
     Count(u32),
     /// The new offset.
     Place(u32),
-    /// What was read.
+    /// What was read, or the target of a symbolic link.
     Bytes(Bytes),
     /// The descriptors of a pipe, the one to read from first.
     Pair(Fd, Fd),

@@ -9,7 +9,7 @@ use Rattle.kernel.proofs.Words.{IsDoomedBy, Doomed, effect, made_by, AreNew, wit
 use Rattle.kernel.proofs.Words.{calling, limit_of, setup_of, moment, Fields, Dooms, CanEnter, IsIn, Moves, part_at, part_of, shown_by, changes_of, doomed_by, is_no_entry, is_some}
 use Rattle.kernel.proofs.Words.{Edit, FitsAll, is_alive, sum_by, news, distinct, with_touches, with_touches-append, Make_directory}
 use Rattle.kernel.proofs.Words.{Unname_directory, Touch, touches, counted, counting, all_done, CanEdit, Committed, IsPlan, IsPlanWithoutTouches, Plans, Prepares, Part, Live}
-use Rattle.model.specs.Changes.{Make_file, Name_file, Unname_file, Move, Put_bytes, Cut, Open_inode, Set_offset, Share_slot, Clear_slot, Make_pipe, Take, Append, New_process, End_process}
+use Rattle.model.specs.Changes.{Make_file, Make_fixed, Name_file, Unname_file, Move, Put_bytes, Cut, Open_inode, Set_offset, Set_rights, Share_slot, Clear_slot, Make_pipe, Take, Append, New_process, End_process}
 use Rattle.call_laws.specs.Fits.{Fits}
 use Rattle.shadow.specs.Looks.{DirectoriesAreKept}
 use Rattle.shadow.specs.Steps.{IsOne, IsLast}
@@ -42,6 +42,7 @@ Parents v es = HaveParents v.reserves es
 first_parents : (v : Committed) → DirectoriesAreKept v → (chosen : List ℕ) (e : Edit) → Fits chosen v.state e → IsOne e → HasParent v.reserves e
 first_parents v kept chosen (Make_directory d x i) fit is = (kept d fit.0.parent.directory, tt)
 first_parents v kept chosen (Make_file d x i) fit is = (kept d fit.0.parent.directory, tt)
+first_parents v kept chosen (Make_fixed d x fixed i) fit is = (kept d fit.0.parent.directory, tt)
 first_parents v kept chosen (Name_file d x n) fit is = (kept d fit.0.parent.directory, tt)
 first_parents v kept chosen (Unname_file d x n) fit is = tt
 first_parents v kept chosen (Unname_directory d x n) fit is = tt
@@ -55,6 +56,7 @@ first_parents v kept chosen (Clear_slot pid f pipes) fit is = tt
 first_parents v kept chosen (Make_pipe i pid f g) fit is = tt
 first_parents v kept chosen (Take p count) fit is = tt
 first_parents v kept chosen (Append p bytes) fit is = tt
+first_parents v kept chosen (Set_rights n rights) fit is = tt
 first_parents v kept chosen e fit is = elim is [ inl first ↦ absurd first | inr last ↦ absurd last.1 ]
 
 last_parents : (v : Committed) (m : ℕ) (e : Edit) → IsLast m e → HasParent v.reserves e

@@ -7,16 +7,16 @@ use Rattle.std.specs.Map.{lookup}
 use Rattle.std.specs.Cmp.{nat_cmp_total}
 use Rattle.std.proofs.lemmas.Bool.{false≢true}
 use Rattle.model.specs.FiniteMap.{entries, get}
-use Rattle.model.specs.State.{A_file, A_directory, A_pipe, Kernel}
+use Rattle.model.specs.State.{A_file, A_directory, A_pipe, A_link, A_fifo, A_socket, Kernel}
 use Rattle.model.specs.Limits.{largest_file}
-use Rattle.model.specs.Plan.{Errno, Plan, Give, answer as answer_to, given, ◌>>=◌, ◌>>◌, ENOENT, ENOTDIR, ENOTEMPTY, EEXIST, EBUSY, EISDIR, EINVAL, EBADF, EFBIG, EPERM, ESPIPE, EPIPE, EAGAIN, List_names, refuse_if, or_refuse}
+use Rattle.model.specs.Plan.{Errno, Plan, Give, answer as answer_to, given, ◌>>=◌, ◌>>◌, ENOENT, ENOTDIR, ENOTEMPTY, EEXIST, EBUSY, EISDIR, EINVAL, EBADF, EFBIG, ELOOP, ENAMETOOLONG, ENXIO, EPERM, ESPIPE, EPIPE, EAGAIN, List_names, refuse_if, or_refuse}
 use Rattle.model.specs.Entries.{is_inside}
 use Rattle.kernel.specs.States.{CanChange}
-use Rattle.model.specs.Calls.{Call, Dup, Dup2, Open, Close, Read, Pread, Write, Pwrite, Lseek, Ftruncate, Truncate, Stat, Fstat, Link, Unlink, Rename, Mkdir, Rmdir, List_directory, Open_pipe, Fork, Exit, Child, OpenFlags, Own, Slot, slot_of, own}
+use Rattle.model.specs.Calls.{Call, Dup, Dup2, Open, Close, Read, Pread, Write, Pwrite, Lseek, Ftruncate, Truncate, Stat, Fstat, Link, Unlink, Rename, Mkdir, Rmdir, List_directory, Symlink, Readlink, Lstat, Mknod, Chmod, Chown, Fchmod, Fchown, Open_pipe, Fork, Exit, Child, OpenFlags, Own, Slot, slot_of, own}
 use Rattle.model.specs.Changes.{process_of, There, New_process}
 use Rattle.model.specs.Paths.{is_empty, is_below}
-use Rattle.model.specs.Walks.{Place, Last, parsed, walk, last_of, is_directory}
-use Rattle.model.specs.Plans.{Change, duplicated, plan, status as told_status, absent, slot, free, free_from, first_of_free, is_pipe, opened, cut_to, read_some, write_some, offset_named, write_from, read_pipe, piped, pipes_in, whole_write, most_processes, place_to_write, base, sought, moved, replaced_by_name, room, most_moved, descriptor_limit}
+use Rattle.model.specs.Walks.{Place, Last, parsed, walk, last_of, is_directory, is_link}
+use Rattle.model.specs.Plans.{Change, duplicated, plan, status as told_status, absent, slot, free, free_from, first_of_free, is_pipe, is_special, opened, cut_to, read_some, write_some, offset_named, write_from, read_pipe, piped, pipes_in, whole_write, most_processes, place_to_write, base, sought, moved, replaced_by_name, room, most_moved, descriptor_limit, target_limit}
 use Rattle.model.specs.Steps.{edits, edits_of, reply, reply_of}
 use Rattle.ids.specs.Flags.{is_reading, is_writing, is_creating, is_exclusive, is_truncating}
 use Rattle.model.proofs.Laws.{all_entries}
@@ -39,6 +39,9 @@ tells : (k : Kernel) (place : Place) → IfOk (given k (told_status place)) Edit
 tells k (n, Some A_file) = tt
 tells k (n, Some A_directory) = tt
 tells k (n, Some A_pipe) = tt
+tells k (n, Some A_link) = tt
+tells k (n, Some A_fifo) = tt
+tells k (n, Some A_socket) = tt
 tells k (n, None) = tt
 
 abbrev slots_of : Kernel → List (ℕ × ℕ) → List (ℕ × Slot)
@@ -83,7 +86,8 @@ open_edits : (k : Kernel) (o : Own) (flags : OpenFlags) (f : ℕ) → f < descri
 open_edits k o flags f low at None = unless k (not (is_creating flags)) ENOENT _ (refl, refl, (refl, omega arith, low))
 open_edits k o flags f low at (Some place) =
     unless k (is_creating flags && is_exclusive flags) EEXIST _ (unless k (is_directory place) EISDIR _ (
-    either_given_bind (is_truncating flags)))
+    unless k (is_link place) ELOOP _ (unless k (is_special place) ENXIO _ (
+    either_given_bind (is_truncating flags)))))
   where
     either_given_bind : (b : Bool) → IfOk (given k ((if b then cut_to place.0 0 else Give []) >>= (λ es. Rattle.model.specs.Plans.changed (Rattle.model.specs.Calls.Descriptor f) (es ++ Rattle.model.specs.Changes.Open_inode 0 (There place.0) (Rattle.model.specs.Plans.mode flags) o.pid f ∷ [])))) Edits
     either_given_bind true = (omega arith, refl, (refl, tt, low))
@@ -160,9 +164,10 @@ module _ (k : Kernel) (pid : ℕ) (well : WellFormed k) (low : k.largest ≤ lar
   planned (Pwrite f bytes offset) h = on k pid well (Pwrite f bytes offset) f _ (λ it opened. unless k (not it.writing) EBADF _ (unless k (is_pipe it.kind) ESPIPE _ (after k (or_refuse EINVAL (offset_named offset)) _ (λ at. either_given k Edits (is_empty bytes) _ _ (λ _. tt) (λ _. put_edits k k.largest low it.inode at bytes)))))
   planned (Lseek f move whence) h = on k pid well (Lseek f move whence) f _ (λ it opened. unless k (is_pipe it.kind) ESPIPE _ (after k (base it whence) _ (λ place. seek_edits k k.largest it (pos place +ℤ move))))
   planned (Ftruncate f len) h = on k pid well (Ftruncate f len) f _ (λ it opened. unless k (not it.writing) EBADF _ (unless k (is_pipe it.kind) EINVAL _ (allowed k Edits (nat_lt k.largest len) EFBIG _ (λ fits. inl (let within : len ≤ k.largest = not_below k.largest len fits in omega arith)))))
-  planned (Truncate path len) h = after k (parsed path) _ (λ names. after k (walk (k.root, Some A_directory) names) _ (λ place. unless k (is_directory place) EISDIR _ (allowed k Edits (nat_lt k.largest len) EFBIG _ (λ fits. inl (let within : len ≤ k.largest = not_below k.largest len fits in omega arith)))))
+  planned (Truncate path len) h = after k (parsed path) _ (λ names. after k (walk (k.root, Some A_directory) names) _ (λ place. unless k (is_directory place) EISDIR _ (unless k (is_link place) ELOOP _ (unless k (is_special place) EINVAL _ (
+      allowed k Edits (nat_lt k.largest len) EFBIG _ (λ fits. inl (let within : len ≤ k.largest = not_below k.largest len fits in omega arith)))))))
   planned (Fstat f) h = on k pid well (Fstat f) f _ (λ it opened. tells k (it.inode, it.kind))
-  planned (Stat path) h = after k (parsed path) _ (λ names. after k (walk (k.root, Some A_directory) names) _ (tells k))
+  planned (Stat path) h = after k (parsed path) _ (λ names. after k (walk (k.root, Some A_directory) names) _ (λ place. unless k (is_link place) ELOOP _ (tells k place)))
   planned (Link old path) h =
       after k (parsed old) _ (λ from. after k (parsed path) _ (λ to. after k (walk (k.root, Some A_directory) from) _ (λ what. unless k (is_directory what) EPERM _ (
       after k (last_of k.root EEXIST to) _ (λ at. after k (absent at.found) _ (λ _. inl tt))))))
@@ -175,7 +180,17 @@ module _ (k : Kernel) (pid : ℕ) (well : WellFormed k) (low : k.largest ≤ lar
   planned (Mkdir path) h = after k (parsed path) _ (λ names. after k (last_of k.root EEXIST names) _ (λ at. after k (absent at.found) _ (λ _. inl refl)))
   planned (Rmdir path) h =
       after k (parsed path) _ (λ names. after k (last_of k.root EBUSY names) _ (λ at. after k (or_refuse ENOENT at.found) _ (λ what. unless k (not (is_directory what)) ENOTDIR _ (unless k (not (is_empty (answer_to k (List_names what.0)))) ENOTEMPTY _ (inl tt)))))
-  planned (List_directory path) h = after k (parsed path) _ (λ names. after k (walk (k.root, Some A_directory) names) _ (λ place. unless k (not (is_directory place)) ENOTDIR _ tt))
+  planned (List_directory path) h = after k (parsed path) _ (λ names. after k (walk (k.root, Some A_directory) names) _ (λ place. unless k (is_link place) ELOOP _ (unless k (not (is_directory place)) ENOTDIR _ tt)))
+  planned (Symlink target path) h =
+      unless k (is_empty target) ENOENT _ (unless k (nat_lt target_limit (length target)) ENAMETOOLONG _ (unless k (list_any (λ b. b == 0) target) EINVAL _ (
+      after k (parsed path) _ (λ names. after k (last_of k.root EEXIST names) _ (λ at. after k (absent at.found) _ (λ _. inl refl))))))
+  planned (Readlink path) h = after k (parsed path) _ (λ names. after k (walk (k.root, Some A_directory) names) _ (λ place. unless k (not (is_link place)) EINVAL _ tt))
+  planned (Lstat path) h = after k (parsed path) _ (λ names. after k (walk (k.root, Some A_directory) names) _ (tells k))
+  planned (Mknod path special) h = after k (parsed path) _ (λ names. after k (last_of k.root EEXIST names) _ (λ at. after k (absent at.found) _ (λ _. inl refl)))
+  planned (Chmod path permissions) h = after k (parsed path) _ (λ names. after k (walk (k.root, Some A_directory) names) _ (λ place. unless k (is_link place) ELOOP _ (inl tt)))
+  planned (Chown path owner) h = after k (parsed path) _ (λ names. after k (walk (k.root, Some A_directory) names) _ (λ place. inl tt))
+  planned (Fchmod f permissions) h = on k pid well (Fchmod f permissions) f _ (λ it opened. inl tt)
+  planned (Fchown f owner) h = on k pid well (Fchown f owner) f _ (λ it opened. inl tt)
   planned (Dup f) h = on k pid well (Dup f) f _ (λ it opened. shared_edits k (own k pid (Dup f)) it (free (own k pid (Dup f))) (all_free (own k pid (Dup f)).table 0 descriptor_limit))
   planned (Dup2 f g) h = on k pid well (Dup2 f g) f _ (λ it opened. allowed k Edits (nat_lt 63 g) EBADF _ (λ low. either_given k Edits (f == g) _ _ (λ _. tt) (λ _. inr (let few : g ≤ 63 = not_below 63 g low in omega arith))))
   planned Open_pipe h = pair_edits k (own k pid Open_pipe) (free (own k pid Open_pipe)) (all_free (own k pid Open_pipe).table 0 descriptor_limit)

@@ -20,6 +20,7 @@ use Rattle.fdtable.specs.contracts.SlotPatch as SlotPatch
 use Rattle.shadow.specs.contracts.change.Contents as Contents
 use Rattle.shadow.specs.contracts.change.InodeChange as InodeChange
 use Rattle.shadow.specs.contracts.inodes.Inodes as Inodes
+use Rattle.shadow.specs.contracts.new_rights.NewRights as NewRights
 use Rattle.shadow.specs.contracts.opening.Openings as Openings
 use Rattle.shadow.specs.contracts.slots.Slots as Slots
 use Rattle.shadow.specs.contracts.patches.Patches as Patches
@@ -41,6 +42,7 @@ use Rattle.ids.specs.contracts.call.Op as Op
 use Rattle.ids.specs.contracts.bytes.Bytes as Bytes
 use Rattle.ids.specs.contracts.bytes.Name as Name
 use Rattle.ids.specs.contracts.bytes.NameList as NameList
+use Rattle.ids.specs.contracts.fixed.Fixed as Fixed
 use Rattle.ids.specs.contracts.reply.Answer as Answer
 use Rattle.ids.specs.contracts.reply.Reply as Reply
 use Rattle.ids.specs.contracts.entry.Entry as Entry
@@ -88,14 +90,23 @@ table_sent = search (sendable, crosses, over.crosses) depth 40 fits 30000
 given_sent : IsSend SlotPatch.the_row
 given_sent = search (sendable, crosses, over.crosses) depth 40 fits 30000
 
+text_sent : IsSend Bytes.the_row
+text_sent = search (sendable, crosses, over.crosses, frees_by, frees.frees) depth 40 fits 30000
+
+fixed_sent : IsSend (Fixed.the_field).row
+fixed_sent = search (text_sent, sendable, crosses, over.crosses, frees_by, frees.frees) depth 40 fits 30000
+
 contents_sent : IsSend (Contents.the_field).row
-contents_sent = search (patch_sent, bytes_sent, open_pipe_sent, appended_sent, sendable, crosses, over.crosses) depth 40 fits 30000
+contents_sent = search (patch_sent, bytes_sent, open_pipe_sent, appended_sent, fixed_sent, sendable, crosses, over.crosses) depth 40 fits 30000
 
 change_sent : IsSend (InodeChange.the_field).row
 change_sent = search (contents_sent, room_sent, sendable, crosses, over.crosses) depth 40 fits 30000
 
 inodes_sent : IsSend Inodes.the_row
 inodes_sent = search (change_sent, sendable, crosses, over.crosses, maps.crosses, frees_by, frees.frees) depth 40 fits 30000
+
+rights_sent : IsSend NewRights.the_row
+rights_sent = search (sendable, crosses, over.crosses, maps.crosses, frees_by, frees.frees) depth 40 fits 30000
 
 openings_sent : IsSend Openings.the_row
 openings_sent = search (sendable, crosses, over.crosses, maps.crosses, frees_by, frees.frees) depth 40 fits 30000
@@ -104,7 +115,7 @@ slots_sent : IsSend Slots.the_row
 slots_sent = search (given_sent, sendable, crosses, over.crosses, frees_by, frees.frees) depth 40 fits 30000
 
 patches_sent : IsSend Patches.the_row
-patches_sent = search (inodes_sent, openings_sent, slots_sent, sendable, crosses, over.crosses, frees_by, frees.frees) depth 40 fits 30000
+patches_sent = search (inodes_sent, rights_sent, openings_sent, slots_sent, sendable, crosses, over.crosses, frees_by, frees.frees) depth 40 fits 30000
 
 shadow_sent : IsSend Shadow.the_row
 shadow_sent = search (patches_sent, sendable, crosses, over.crosses) depth 40 fits 30000
@@ -119,7 +130,7 @@ opened_sent : IsSend (Opened.the_field).row
 opened_sent = search (sendable, crosses, over.crosses) depth 40 fits 30000
 
 object_sent : IsSend (Object.the_field).row
-object_sent = search (dir_sent, open_file_sent, open_pipe_sent, opened_sent, sendable) depth 40 fits 30000
+object_sent = search (dir_sent, open_file_sent, open_pipe_sent, opened_sent, fixed_sent, sendable) depth 40 fits 30000
 
 header_sent : IsSend Header.the_row
 header_sent = search (object_sent, sendable, crosses, over.crosses, frees_by, frees.frees) depth 40 fits 30000
@@ -174,9 +185,6 @@ ranks_sent = search (sendable, crosses, over.crosses, frees_by, frees.frees) dep
 
 contenders_sent : IsSend Contenders.the_row
 contenders_sent = search (ranks_sent, marked_records_sent, sendable, crosses, over.crosses, frees_by, frees.frees) depth 40 fits 30000
-
-text_sent : IsSend Bytes.the_row
-text_sent = search (sendable, crosses, over.crosses, frees_by, frees.frees) depth 40 fits 30000
 
 call_sent : IsSend (Call.the_field).row
 call_sent = search (text_sent, sendable, crosses, over.crosses, frees_by, frees.frees) depth 40 fits 30000

@@ -2,9 +2,9 @@
 use fuse::{Bytes, Changes, Forgets, Operation, Time, TimeChange, Whence};
 
 // The opcodes that are served.
-pub(crate) const OPCODES: [u8; 28] = [
-    1, 2, 3, 4, 8, 9, 10, 11, 12, 13, 14, 15, 16, 17, 18, 20, 25, 26, 27, 28, 29, 34, 35, 36, 38,
-    42, 45, 46,
+pub(crate) const OPCODES: [u8; 30] = [
+    1, 2, 3, 4, 5, 6, 8, 9, 10, 11, 12, 13, 14, 15, 16, 17, 18, 20, 25, 26, 27, 28, 29, 34, 35, 36,
+    38, 42, 45, 46,
 ];
 
 // A body of this opcode.
@@ -13,14 +13,15 @@ pub(crate) fn body_of(opcode: u8) -> &'static [u8] {
         1 | 10 | 11 => b"name\0",
         2 | 36 => b"\x03\0\0\0\0\0\0\x01",
         3 => b"\x01\0\0\0\0\0\0\0\x07\0\0\0\0\0\0\x01",
-        4 => b"\xb9\0\0\0\0\0\0\0\0\0\0\0\0\0\0\0\x10\0\0\0\0\0\0\x01\0\0\0\0\0\0\0\0\
+        4 => b"\xb9\x08\0\0\0\0\0\0\0\0\0\0\0\0\0\0\x10\0\0\0\0\0\0\x01\0\0\0\0\0\0\0\0\
             \x04\0\0\0\0\0\0\x01\x05\0\0\0\0\0\0\x01\0\0\0\0\0\0\0\0\x07\0\0\0\x06\0\0\0\0\0\0\0\
             \xa4\x81\0\0\0\0\0\0\0\0\0\0\0\0\0\0\0\0\0\0",
+        6 => b"name\0../to/it\0",
         8 => b"\xa4\x81\0\0\0\0\0\0\x12\0\0\0\0\0\0\0name\0",
         9 => b"\xed\x01\0\0\x12\0\0\0name\0",
         12 => b"\x06\0\0\0\0\0\0\x01name\0other\0",
         13 => b"\x06\0\0\0\0\0\0\x01name\0",
-        14 => b"\x02\x80\0\0\0\0\0\0",
+        14 => b"\x02\x80\0\0\x01\0\0\0",
         15 => b"\x07\0\0\0\0\0\0\x01\0\x10\0\0\x01\0\0\0\0\x02\0\0\0\0\0\0\0\0\0\0\0\0\0\0\
             \x02\x80\0\0\0\0\0\0",
         16 => b"\x07\0\0\0\0\0\0\x01\0\x10\0\0\x01\0\0\0\x04\0\0\0\x01\0\0\0\0\0\0\0\0\0\0\0\
@@ -34,7 +35,7 @@ pub(crate) fn body_of(opcode: u8) -> &'static [u8] {
             \0\x80\x01\0\0\0\0\0",
         29 => b"\x07\0\0\0\0\0\0\x01\0\x80\x01\0\0\0\0\0\0\0\0\0\0\0\0\0",
         34 => b"\x04\0\0\0\0\0\0\0",
-        35 => b"\x42\0\0\0\xa4\x81\0\0\x12\0\0\0\0\0\0\0name\0",
+        35 => b"\x42\0\0\0\xa4\x81\0\0\x12\0\0\0\x01\0\0\0name\0",
         42 => b"\x02\0\0\0\0\0\0\0\x05\0\0\0\0\0\0\0\x01\0\0\0\0\0\0\0\
             \x06\0\0\0\0\0\0\0\x02\0\0\0\0\0\0\x01",
         45 => b"\x06\0\0\0\0\0\0\x01\x02\0\0\0\0\0\0\0name\0other\0",
@@ -83,12 +84,13 @@ fn are_changes(changes: &Changes) -> bool {
         && changes.mode == Some(0x81a4)
         && changes.uid.is_none()
         && changes.gid.is_none()
+        && changes.drops_set_ids
 }
 
 // Whether an operation is what the body of its opcode says, where it is of an open file.
 fn is_of_file(operation: &Operation, opcode: u8) -> bool {
     match operation {
-        Operation::Open { flags } => opcode == 14 && *flags == 0x8002,
+        Operation::Open { flags, how } => opcode == 14 && *flags == 0x8002 && *how == 1,
         Operation::Read {
             handle,
             offset,
@@ -138,6 +140,9 @@ fn is_of_file(operation: &Operation, opcode: u8) -> bool {
 fn is_of_name(operation: &Operation, opcode: u8) -> bool {
     match operation {
         Operation::Lookup { name } => opcode == 1 && is_name(name),
+        Operation::SymLink { name, target } => {
+            opcode == 6 && is_name(name) && target.as_slice() == b"../to/it".as_slice()
+        }
         Operation::MkNod { name, mode } => opcode == 8 && is_name(name) && *mode == 0x81a4,
         Operation::MkDir { name, mode } => opcode == 9 && is_name(name) && *mode == 0x1ed,
         Operation::Unlink { name } => opcode == 10 && is_name(name),
@@ -154,9 +159,12 @@ fn is_of_name(operation: &Operation, opcode: u8) -> bool {
                 && (opcode == 12 && *flags == 0 || opcode == 45 && *flags == 2)
         }
         Operation::Link { node, new_name } => opcode == 13 && *node == SIX && is_name(new_name),
-        Operation::Create { name, flags, mode } => {
-            opcode == 35 && is_name(name) && *flags == 0x42 && *mode == 0x81a4
-        }
+        Operation::Create {
+            name,
+            flags,
+            mode,
+            how,
+        } => opcode == 35 && is_name(name) && *flags == 0x42 && *mode == 0x81a4 && *how == 1,
         _ => false,
     }
 }
@@ -168,6 +176,7 @@ fn is_of_another(operation: &Operation, opcode: u8) -> bool {
         Operation::BatchForget { forgets } => opcode == 42 && are_forgets(forgets),
         Operation::GetAttr { handle } => opcode == 3 && *handle == Some(SEVEN),
         Operation::SetAttr { changes } => opcode == 4 && are_changes(changes),
+        Operation::ReadLink => opcode == 5,
         Operation::OpenDir => opcode == 27,
         Operation::ReadDir {
             handle,

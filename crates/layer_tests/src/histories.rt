@@ -6,7 +6,7 @@ use heap::Heap;
 use history::History;
 use ids::{
     Answer, Aspect, BeginFlags, Bytes, Call, Cause, DEFAULT_LARGEST_FILE, Entry, Fd, Kind, Limits,
-    Name, Num, Nums, Op, OpenFlags, Pid, Pids, Priority, Reply, Stat, Touch, Whence, Why,
+    Name, Num, Nums, Op, OpenFlags, Pid, Pids, Priority, Reply, Rights, Stat, Touch, Whence, Why,
 };
 use std::process::Abort;
 
@@ -86,6 +86,7 @@ pub(crate) fn directory(num: usize) -> Reply {
         num: Num(num),
         size: 0,
         links: 1,
+        rights: Rights::first(Some(Kind::Dir)),
     }))
 }
 

@@ -1,8 +1,8 @@
 //! Tests of the layers below the kernel: what refused memory leaves, what takes none, and little
 //! else; of the checker, on histories that are written by hand; and of a mount, on bytes of requests
-//! and replies that are written by hand, and on the numbers of its nodes. What a call does where it
-//! succeeds its contract tells, and the worked rows of the kernel go through all layers. They stand
-//! here so that no layer is proved a second time for its tests.
+//! and replies that are written by hand, on the numbers of its nodes, and on the times of its views.
+//! What a call does where it succeeds its contract tells, and the worked rows of the kernel go through
+//! all layers. They stand here so that no layer is proved a second time for its tests.
 #![tactic(auto)]
 
 #[cfg(test)]
@@ -51,6 +51,8 @@ mod of_records;
 mod of_shadow;
 #[cfg(test)]
 mod of_store;
+#[cfg(test)]
+mod of_view_times;
 #[cfg(test)]
 mod pipes;
 #[cfg(test)]

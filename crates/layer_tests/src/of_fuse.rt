@@ -105,6 +105,12 @@ fn malformed_bodies(rt: HostRuntime) -> Result<(), Fail> {
     assert!(rt; is_malformed(heap, 1, b"a/b\0")?);
     assert!(rt; is_malformed(heap, 1, b"name\0\0")?);
     assert!(rt; is_malformed(heap, 12, b"\x06\0\0\0\0\0\0\0name\0")?);
+    // A link without a name or a target, one whose name has a slash, and bytes behind the target.
+    assert!(rt; is_malformed(heap, 6, b"\0target\0")?);
+    assert!(rt; is_malformed(heap, 6, b"name\0")?);
+    assert!(rt; is_malformed(heap, 6, b"a/b\0target\0")?);
+    assert!(rt; is_malformed(heap, 6, b"name\0target\0\0")?);
+    assert!(rt; is_malformed(heap, 5, b"\0")?);
     // No such place to count from, and more forgets than there are.
     assert!(rt;
         is_malformed(

@@ -4,6 +4,7 @@ use Rattle.std.specs.Prelude.{◌||◌, ◌&&◌, ◌==◌, not, slice_range, if
 use Rattle.std.proofs.lemmas.Bool.{cases_lt, cases_eq, eq-eqb, eqb-true, or_cases, or_left, or_right, and_parts, false≢true, false_from_ne_true, not-true, not-false}
 use Rattle.std.proofs.lemmas.List.{get_or_default, get_or_past, take_more}
 use Rattle.model.specs.Aspects.{Aspect, Entry, Names, Size, Block, Links, Ends, Offset, Front, Back}
+use Rattle.model.specs.Aspects.{Target, Rights}
 use Rattle.model.specs.Steps.{Touch}
 use Rattle.model.specs.Clashes.{clash, has_touch, same_aspect}
 use Rattle.records.specs.Touches.{touched_by}
@@ -44,6 +45,10 @@ look_clash d (Front n) true = refl
 look_clash d (Front n) false = refl
 look_clash d (Back n) true = refl
 look_clash d (Back n) false = refl
+look_clash d (Target n) true = refl
+look_clash d (Target n) false = refl
+look_clash d (Rights n) true = refl
+look_clash d (Rights n) false = refl
 
 -- a touch on the same aspect writes the same entries
 change_same : (d : ℕ) (a b : Aspect) (w : Bool) → same_aspect a b ≡ true → changes_names d b w ≡ true → changes_names d a w ≡ true
@@ -58,6 +63,8 @@ change_same d (Ends n) (Ends m) w same h = h
 change_same d (Offset n) (Offset m) w same h = h
 change_same d (Front n) (Front m) w same h = h
 change_same d (Back n) (Back m) w same h = h
+change_same d (Target n) (Target m) w same h = h
+change_same d (Rights n) (Rights m) w same h = h
 change_same d a b w same h = absurd (false≢true same)
 
 write_same : (v w : Bool) → (if w then v else not v) ≡ true → v ≡ w

@@ -6,7 +6,8 @@ use Rattle.std.specs.List.{list_any, flat_map, AllByRecursion}
 use Rattle.std.proofs.lemmas.List.Folds.{list_any-append}
 use Rattle.model.specs.State.{Kernel}
 use Rattle.model.specs.Aspects.{Aspect, Entry, Names, Size, Block, Links, Ends, Offset, Front, Back}
-use Rattle.model.specs.Changes.{Edit, Make_directory, Make_file, Name_file, Unname_file, Unname_directory, Move, Put_bytes, Cut, Take, Append, Set_offset, Share_slot, Clear_slot, New_process, End_process, marks, file_replaced}
+use Rattle.model.specs.Aspects.{Target, Rights}
+use Rattle.model.specs.Changes.{Edit, Make_directory, Make_file, Make_fixed, Name_file, Unname_file, Unname_directory, Move, Put_bytes, Cut, Take, Append, Set_offset, Set_rights, Share_slot, Clear_slot, New_process, End_process, marks, file_replaced}
 use Rattle.model.specs.Calls.{Call}
 use Rattle.model.specs.Entries.{Executed}
 use Rattle.model.specs.Steps.{Touch, reads, writes, edits, touches}
@@ -40,6 +41,7 @@ module _ (d : ℕ) where
   edit_same : (e : Edit) → AllByRecursion IsSame (marks e)
   edit_same (Make_directory e x i) = (refl, tt)
   edit_same (Make_file e x i) = (refl, tt)
+  edit_same (Make_fixed e x fixed i) = (refl, tt)
   edit_same (Name_file e x n) = (refl, (refl, tt))
   edit_same (Unname_file e x n) = (refl, (refl, tt))
   edit_same (Unname_directory e x n) = (refl, tt)
@@ -49,6 +51,7 @@ module _ (d : ℕ) where
   edit_same (Take p count) = (refl, tt)
   edit_same (Append p bytes) = (refl, tt)
   edit_same (Set_offset e place) = (refl, tt)
+  edit_same (Set_rights n rights) = (refl, tt)
   edit_same (Share_slot pid f e pipes) = all_map Ends (λ x. refl) pipes
   edit_same (Clear_slot pid f pipes) = all_map Ends (λ x. refl) pipes
   edit_same (New_process child parent pipes) = all_map Ends (λ x. refl) pipes
@@ -69,6 +72,8 @@ module _ (d : ℕ) where
   none_changed (Offset n) = refl
   none_changed (Front n) = refl
   none_changed (Back n) = refl
+  none_changed (Target n) = refl
+  none_changed (Rights n) = refl
 
   any_read : (seen : List Aspect) → list_any marked (map (λ a. record { aspect = a; write = false }) seen) ≡ list_any written (map (λ a. record { aspect = a; write = false }) seen)
   any_read [] = refl

@@ -1,4 +1,5 @@
 -- What the crates above may cite.
+pub use Rattle.model.proofs.Answers.{SameWay, goes_the_same_way}
 pub use Rattle.model.proofs.Contents.{length-sized, length-written, sized_at, written_before, written_behind, written_in}
 pub use Rattle.model.proofs.Inodes.{apart, get_other, get_same, given_in, links-set_inode, name_exact, tie, unchanged_by, weighed}
 pub use Rattle.model.proofs.Law.{depends_on_what_it_saw}

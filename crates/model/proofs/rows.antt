@@ -1,5 +1,7 @@
 mod Files
 mod Directories
 mod Pipes
+mod Fixed
+mod Rights
 mod Touches
 mod Transactions

@@ -6,8 +6,9 @@ use Rattle.model.specs.Limits.{block_length}
 use Rattle.std.specs.List.{AllByRecursion}
 pub use Rattle.ids.specs.declared.aspect.Aspect.{Aspect}
 pub use Rattle.ids.specs.declared.aspect.Aspect.TheVariants.{Entry, Names, Size, Block, Links, Ends}
-pub use Rattle.ids.specs.declared.aspect.Aspect.TheVariants.{Offset, Front, Back}
-use Rattle.model.specs.State.{Kernel, names_of, file_of, pipe_of, entry_of, offset_of, links, ends}
+pub use Rattle.ids.specs.declared.aspect.Aspect.TheVariants.{Offset, Front, Back, Target, Rights}
+use Rattle.model.specs.State.{Kernel, names_of, file_of, pipe_of, target_of, rights_of}
+use Rattle.model.specs.State.{entry_of, offset_of, links, ends}
 
 -- the bytes of one block, those past the end counted as zero
 abbrev pub SameBlock : ℕ → List ℕ → List ℕ → Type 0
@@ -24,6 +25,10 @@ Keeps now later (Ends p) =
     (ends later p (λ d. d.reading) ≡ ends now p (λ d. d.reading))
     × (ends later p (λ d. d.writing) ≡ ends now p (λ d. d.writing))
 Keeps now later (Offset d) = offset_of later d ≡ offset_of now d
+-- nothing writes it, but in a later state the number may be another object's
+Keeps now later (Target n) = target_of later n ≡ target_of now n
+-- where none were set they go by the kind
+Keeps now later (Rights n) = rights_of later n ≡ rights_of now n
 -- a front is kept where bytes only came behind, a back where bytes only went in front
 Keeps now later (Front p) = (more : List ℕ) × (pipe_of later p ≡ pipe_of now p ++ more)
 Keeps now later (Back p) = (gone : List ℕ) × (pipe_of now p ≡ gone ++ pipe_of later p)

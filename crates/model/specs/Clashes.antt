@@ -6,6 +6,7 @@ use Rattle.std.specs.Prelude.{Option, Some, None, if◌then◌else◌}
 use Rattle.std.specs.List.{list_any}
 use Rattle.model.specs.State.{Name}
 use Rattle.model.specs.Aspects.{Aspect, Entry, Names, Size, Block, Links, Ends, Offset, Front, Back}
+use Rattle.model.specs.Aspects.{Target, Rights}
 use Rattle.model.specs.Paths.{same_name}
 use Rattle.model.specs.Steps.{Touch}
 
@@ -19,6 +20,8 @@ same_aspect (Ends p) (Ends q) = p == q
 same_aspect (Offset d) (Offset e) = d == e
 same_aspect (Front p) (Front q) = p == q
 same_aspect (Back p) (Back q) = p == q
+same_aspect (Target n) (Target m) = n == m
+same_aspect (Rights n) (Rights m) = n == m
 same_aspect _ _ = false
 
 -- whether the first reads the names of a directory and the second writes an entry of it

@@ -16,6 +16,10 @@ path_limit = 1024
 abbrev pub name_limit : ℕ
 name_limit = 255
 
+-- the most bytes of a symbolic link's target (SYMLINK_MAX)
+abbrev pub target_limit : ℕ
+target_limit = 4095
+
 -- the most bytes that a file can have at all, and so the largest offset (FILESIZEBITS, SSIZE_MAX);
 -- each kernel has a number of its own, at most this
 abbrev pub largest_file : ℕ

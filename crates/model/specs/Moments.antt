@@ -56,6 +56,7 @@ abbrev pub start : ℕ → Setup → Kernel
 start root setup = record {
   root = root;
   inodes = insert empty root (Directory empty);
+  rights = empty;
   descriptions = empty;
   processes = with_processes 0 setup.priorities empty;
   made = length setup.priorities;

@@ -7,12 +7,13 @@ use Rattle.model.specs.FiniteMap.{keys}
 pub use Rattle.model.specs.Limits.{capacity, block_length}
 pub use Rattle.ids.specs.declared.errno.Errno.{Errno}
 pub use Rattle.ids.specs.declared.errno.Errno.TheVariants.{EAGAIN, EBADF, EBUSY, EEXIST, EFBIG}
-pub use Rattle.ids.specs.declared.errno.Errno.TheVariants.{EINVAL, EISDIR, EMFILE, ENAMETOOLONG}
-pub use Rattle.ids.specs.declared.errno.Errno.TheVariants.{ENOENT, ENOTDIR, ENOTEMPTY, ENOTSUP}
-pub use Rattle.ids.specs.declared.errno.Errno.TheVariants.{EPERM, EPIPE, ESPIPE}
-use Rattle.model.specs.State.{Name, Kind, Kernel, names_of, file_of, pipe_of, entry_of, offset_of}
-use Rattle.model.specs.State.{links, ends}
+pub use Rattle.ids.specs.declared.errno.Errno.TheVariants.{EINVAL, EISDIR, ELOOP, EMFILE}
+pub use Rattle.ids.specs.declared.errno.Errno.TheVariants.{ENAMETOOLONG, ENOENT, ENOTDIR, ENOTEMPTY}
+pub use Rattle.ids.specs.declared.errno.Errno.TheVariants.{ENOTSUP, ENXIO, EPERM, EPIPE, ESPIPE}
+use Rattle.model.specs.State.{Name, Kind, Kernel, names_of, file_of, pipe_of, target_of}
+use Rattle.model.specs.State.{Rights as Rights_of_inode, rights_of, entry_of, offset_of, links, ends}
 use Rattle.model.specs.Aspects.{Aspect, Entry, Names, Size, Block, Links, Ends, Offset, Front, Back}
+use Rattle.model.specs.Aspects.{Target, Rights}
 
 -- A question about the state. Its answer shows aspects: those are what a call that asks it reads.
 pub data Question : Type 0 where
@@ -25,6 +26,8 @@ pub data Question : Type 0 where
   Find_offset : ℕ → Question
   Read_pipe : ℕ → ℕ → Question  -- so many bytes at most, from the front
   Fit : ℕ → ℕ → Question  -- how many of so many bytes fit into a pipe
+  Read_target : ℕ → Question  -- a symbolic link's target
+  Find_rights : ℕ → Question  -- an inode's permissions and owner
 
 -- the type of a question's answer
 abbrev pub Shown : Question → Type 0
@@ -37,6 +40,8 @@ Shown (Count_ends p) = ℕ × ℕ
 Shown (Find_offset d) = ℕ
 Shown (Read_pipe p count) = List ℕ
 Shown (Fit p count) = ℕ
+Shown (Read_target n) = List ℕ
+Shown (Find_rights n) = Rights_of_inode
 
 -- what the state answers
 abbrev pub answer : Kernel → (q : Question) → Shown q
@@ -49,6 +54,8 @@ answer k (Count_ends p) = (ends k p (λ d. d.reading), ends k p (λ d. d.writing
 answer k (Find_offset d) = offset_of k d
 answer k (Read_pipe p count) = take count (pipe_of k p)
 answer k (Fit p count) = min count (capacity - length (pipe_of k p))
+answer k (Read_target n) = target_of k n
+answer k (Find_rights n) = rights_of k n
 
 -- first, first + 1, and so on
 abbrev pub rising : ℕ → ℕ → List ℕ
@@ -73,6 +80,8 @@ shown (Find_offset d) a = Offset d ∷ []
 shown (Read_pipe p count) bytes =
     Front p ∷ (if nat_lt (length bytes) count then Back p ∷ [] else [])
 shown (Fit p count) fitting = Back p ∷ (if nat_lt fitting count then Front p ∷ [] else [])
+shown (Read_target n) target = Target n ∷ []
+shown (Find_rights n) rights = Rights n ∷ []
 
 -- a plan gives a value, refuses, or asks and goes on by the answer
 pub data Plan (A : Type 0) : Type 0 where

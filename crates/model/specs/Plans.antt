@@ -6,23 +6,29 @@ use Rattle.std.specs.Prelude.{nat_le, if◌then◌else◌, length, take, min, �
 use Rattle.std.specs.List.{flat_map, list_any}
 use Rattle.std.specs.Map.{lookup}
 pub use Rattle.model.specs.Limits.{most_moved, descriptor_limit, most_processes, whole_write}
-use Rattle.model.specs.State.{Kind, A_file, A_directory, A_pipe}
-use Rattle.model.specs.Plan.{EAGAIN, EBADF, EBUSY, EEXIST, EFBIG, EINVAL, EISDIR, EMFILE, ENOENT}
-use Rattle.model.specs.Plan.{ENOTDIR, ENOTEMPTY, EPERM, EPIPE, ESPIPE, List_names, Measure}
-use Rattle.model.specs.Plan.{Read_file, Count_links, Count_ends, Find_offset, Read_pipe, Fit, Plan}
-use Rattle.model.specs.Plan.{Give, Refuse, ◌>>=◌, ◌>>◌, ask, refuse_if, or_refuse}
+pub use Rattle.model.specs.Limits.{target_limit}
+use Rattle.model.specs.State.{Kind, A_file, A_directory, A_pipe, A_link, A_fifo, A_socket}
+use Rattle.model.specs.State.{Link_to, Rights}
+use Rattle.model.specs.Plan.{EAGAIN, EBADF, EBUSY, EEXIST, EFBIG, EINVAL, EISDIR, ELOOP, EMFILE}
+use Rattle.model.specs.Plan.{ENAMETOOLONG, ENOENT, ENOTDIR, ENOTEMPTY, ENXIO, EPERM, EPIPE, ESPIPE}
+use Rattle.model.specs.Plan.{List_names, Measure, Read_file, Count_links, Count_ends, Find_offset}
+use Rattle.model.specs.Plan.{Read_pipe, Fit, Read_target, Find_rights, Plan, Give, Refuse, ◌>>=◌}
+use Rattle.model.specs.Plan.{◌>>◌, ask, refuse_if, or_refuse}
 use Rattle.model.specs.Paths.{is_empty, is_below}
-use Rattle.model.specs.Walks.{parsed, walk, last_of, Last, Place, is_directory}
-use Rattle.model.specs.Changes.{There, Made, Mode, Edit, Make_directory, Make_file, Name_file}
-use Rattle.model.specs.Changes.{Unname_file, Unname_directory, Move, Put_bytes, Cut, Take, Append}
+use Rattle.model.specs.Walks.{parsed, walk, last_of, Last, Place, is_directory, is_link}
+use Rattle.model.specs.Changes.{There, Made, Mode, Edit, Make_directory, Make_file, Make_fixed}
+use Rattle.model.specs.Changes.{Name_file, Unname_file, Unname_directory, Move, Put_bytes, Cut, Take, Append}
 use Rattle.model.specs.Changes.{Replaced, Over_nothing, Over_file, Over_directory}
-use Rattle.model.specs.Changes.{Set_offset, Open_inode, Make_pipe, Share_slot, Clear_slot}
+use Rattle.model.specs.Changes.{Set_offset, Set_rights, Open_inode, Make_pipe, Share_slot, Clear_slot}
 use Rattle.model.specs.Changes.{New_process, End_process}
+use Rattle.ids.specs.Fixed.{special_object}
+use Rattle.ids.specs.Rights.{permitted, owned}
 use Rattle.ids.specs.Flags.{is_reading, is_writing, is_creating, is_exclusive, is_truncating}
 use Rattle.ids.specs.Flags.{is_appending}
 use Rattle.model.specs.Calls.{OpenFlags, Whence, From_start, From_offset, From_end, Call, Open}
 use Rattle.model.specs.Calls.{Close, Read, Pread, Write, Pwrite, Lseek, Ftruncate, Truncate, Stat}
-use Rattle.model.specs.Calls.{Fstat, Link, Unlink, Rename, Mkdir, Rmdir, List_directory, Dup, Dup2}
+use Rattle.model.specs.Calls.{Fstat, Link, Unlink, Rename, Mkdir, Rmdir, List_directory, Symlink}
+use Rattle.model.specs.Calls.{Readlink, Lstat, Mknod, Chmod, Chown, Fchmod, Fchown, Dup, Dup2}
 use Rattle.model.specs.Calls.{Open_pipe, Fork, Exit, Answer, Done, Descriptor, Count, New_place}
 use Rattle.model.specs.Calls.{Bytes, Pair, Stated, Listing, Child, Slot, Own}
 
@@ -75,17 +81,39 @@ each_once before (n ∷ ns) =
 abbrev pub pipes_in : Own → List ℕ
 pipes_in own = each_once [] (flat_map (λ e. pipe_in (Some e.1)) own.table)
 
+-- with its rights, which are asked for last
+abbrev pub stated : Kind → ℕ → ℕ → ℕ → Plan Change
+stated kind n size links = do
+  rights ← ask (Find_rights n)
+  unchanged
+      (Stated (record { kind = kind; num = n; size = size; links = links; rights = rights }))
+
 abbrev pub status : Place → Plan Change
 status (n, Some A_file) = do
   size ← ask (Measure n)
   links ← ask (Count_links n)
-  unchanged (Stated (record { kind = A_file; num = n; size = size; links = links }))
-status (n, Some A_directory) =
-    unchanged (Stated (record { kind = A_directory; num = n; size = 0; links = 1 }))
-status (n, Some A_pipe) =
-    unchanged (Stated (record { kind = A_pipe; num = n; size = 0; links = 0 }))
+  stated A_file n size links
+status (n, Some A_directory) = stated A_directory n 0 1
+status (n, Some A_pipe) = stated A_pipe n 0 0
+status (n, Some A_link) = do
+  target ← ask (Read_target n)
+  links ← ask (Count_links n)
+  stated A_link n (length target) links
+status (n, Some A_fifo) = do
+  links ← ask (Count_links n)
+  stated A_fifo n 0 links
+status (n, Some A_socket) = do
+  links ← ask (Count_links n)
+  stated A_socket n 0 links
 -- a number that stands for nothing, which no well-formed state has
 status (n, None) = Refuse ENOENT
+
+-- An inode's rights are made others. No permission is checked, here or in any plan: whoever has the
+-- kernel is its superuser (POSIX.1-2017, 4.5 File Access Permissions: appropriate privileges).
+abbrev pub revised : ℕ → (Rights → Rights) → Plan Change
+revised n change = do
+  rights ← ask (Find_rights n)
+  changed Done (Set_rights n (change rights) ∷ [])
 
 abbrev pub mode : OpenFlags → Mode
 mode flags = record {
@@ -93,6 +121,12 @@ mode flags = record {
   writing = is_writing flags;
   appending = is_appending flags;
 }
+
+-- a FIFO or a socket: nothing is behind such a name
+abbrev pub is_special : Place → Bool
+is_special (n, Some A_fifo) = true
+is_special (n, Some A_socket) = true
+is_special _ = false
 
 abbrev pub cut_to : ℕ → ℕ → Plan (List Edit)
 cut_to n len = do
@@ -107,6 +141,8 @@ opened own flags f at None = do
 opened own flags f at (Some place) = do
   refuse_if (is_creating flags && is_exclusive flags) EEXIST
   refuse_if (is_directory place) EISDIR
+  refuse_if (is_link place) ELOOP
+  refuse_if (is_special place) ENXIO
   cut ← if is_truncating flags then cut_to place.0 0 else Give []
   changed (Descriptor f) (cut ++ Open_inode 0 (There place.0) (mode flags) own.pid f ∷ [])
 
@@ -182,7 +218,7 @@ base it From_start = Give 0
 base it From_offset = ask (Find_offset it.description)
 base it From_end = ask (Measure it.inode)
 
--- what loses the name: a file, or a directory, which must be empty
+-- what loses the name: a directory, which must be empty, or anything else
 abbrev pub replaced_by_name : ℕ → Bool → Plan Replaced
 replaced_by_name n true = do
   names ← ask (List_names n)
@@ -271,12 +307,15 @@ plan own (Truncate path len) = do
   names ← parsed path
   place ← walk (own.root, Some A_directory) names
   refuse_if (is_directory place) EISDIR
+  refuse_if (is_link place) ELOOP
+  refuse_if (is_special place) EINVAL
   refuse_if (nat_lt own.largest len) EFBIG
   cut ← cut_to place.0 len
   changed Done cut
 plan own (Stat path) = do
   names ← parsed path
   place ← walk (own.root, Some A_directory) names
+  refuse_if (is_link place) ELOOP
   status place
 plan own (Fstat f) = do
   it ← slot own f
@@ -320,9 +359,52 @@ plan own (Rmdir path) = do
 plan own (List_directory path) = do
   names ← parsed path
   place ← walk (own.root, Some A_directory) names
+  refuse_if (is_link place) ELOOP
   refuse_if (not (is_directory place)) ENOTDIR
   entries ← ask (List_names place.0)
   unchanged (Listing entries)
+-- a target is any bytes but none and a zero byte (symlink: ENOENT and ENAMETOOLONG; of a zero byte
+-- the standard says nothing, since its arguments end at one)
+plan own (Symlink target path) = do
+  refuse_if (is_empty target) ENOENT
+  refuse_if (nat_lt target_limit (length target)) ENAMETOOLONG
+  refuse_if (list_any (λ b. b == 0) target) EINVAL
+  names ← parsed path
+  at ← last_of own.root EEXIST names
+  absent at.found
+  changed Done (Make_fixed at.parent at.name (Link_to target) 0 ∷ [])
+plan own (Readlink path) = do
+  names ← parsed path
+  place ← walk (own.root, Some A_directory) names
+  refuse_if (not (is_link place)) EINVAL
+  target ← ask (Read_target place.0)
+  unchanged (Bytes target)
+plan own (Lstat path) = do
+  names ← parsed path
+  place ← walk (own.root, Some A_directory) names
+  status place
+plan own (Mknod path special) = do
+  names ← parsed path
+  at ← last_of own.root EEXIST names
+  absent at.found
+  changed Done (Make_fixed at.parent at.name (special_object special) 0 ∷ [])
+-- a symbolic link in the last place is refused by chmod, which would follow it, and is itself what
+-- this chown is about (POSIX.1-2017, chmod, lchown)
+plan own (Chmod path permissions) = do
+  names ← parsed path
+  place ← walk (own.root, Some A_directory) names
+  refuse_if (is_link place) ELOOP
+  revised place.0 (permitted permissions)
+plan own (Chown path owner) = do
+  names ← parsed path
+  place ← walk (own.root, Some A_directory) names
+  revised place.0 (owned place.1 owner)
+plan own (Fchmod f permissions) = do
+  it ← slot own f
+  revised it.inode (permitted permissions)
+plan own (Fchown f owner) = do
+  it ← slot own f
+  revised it.inode (owned it.kind owner)
 plan own (Dup f) = do
   it ← slot own f
   duplicated own it (free own)

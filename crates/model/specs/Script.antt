@@ -1,10 +1,12 @@
 -- Operations in a row on a fresh kernel, to check worked rows by. All of it computes.
-use Rattle.std.specs.Prelude.{ℕ, List, [], ◌∷◌, Result, ⊤}
+use Rattle.std.specs.Prelude.{ℕ, List, [], ◌∷◌, Option, Some, Result, ⊤}
 use Rattle.model.specs.FiniteMap.{computes}
-use Rattle.model.specs.State.{Kernel, A_file, A_directory, A_pipe, links, ends}
+use Rattle.model.specs.State.{Kernel, Kind, A_file, A_directory, A_pipe, A_link, A_fifo, A_socket}
+use Rattle.model.specs.State.{Rights, links, ends}
+use Rattle.ids.specs.Rights.{first_rights}
 use Rattle.model.specs.Plan.{Errno}
 use Rattle.model.specs.Changes.{all_applied, applied, tidy, holders, openings}
-use Rattle.model.specs.Calls.{OpenFlags, Call, Answer, Stated}
+use Rattle.model.specs.Calls.{OpenFlags, NewOwner, Call, Answer, Stated}
 use Rattle.model.specs.Steps.{reply, edits}
 use Rattle.model.specs.Limits.{default_largest_file}
 use Rattle.model.specs.Moments.{Setup, start}
@@ -59,12 +61,38 @@ wronly_creat = flags 6
 abbrev pub rdwr_creat : OpenFlags
 rdwr_creat = flags 7
 
--- what `stat` tells of a file, a directory and a pipe
+-- what `stat` tells of an object with these rights
+abbrev pub told_with : Rights → Kind → ℕ → ℕ → ℕ → Answer
+told_with rights kind n size links =
+    Stated (record { kind = kind; num = n; size = size; links = links; rights = rights })
+
+-- with the first rights of its kind
+abbrev pub told : Kind → ℕ → ℕ → ℕ → Answer
+told kind = told_with (first_rights (Some kind)) kind
+
+abbrev pub rights : ℕ → ℕ → ℕ → Rights
+rights permissions user group =
+    record { permissions = permissions; owner = record { user = user; group = group } }
+
+abbrev pub new_owner : Option ℕ → Option ℕ → NewOwner
+new_owner user group = record { user = user; group = group }
+
+-- what `stat` tells of a file, a directory and a pipe, and `lstat` of a symbolic link, a FIFO and a
+-- socket, each with its first rights
 abbrev pub a_file : ℕ → ℕ → ℕ → Answer
-a_file n size links = Stated (record { kind = A_file; num = n; size = size; links = links })
+a_file = told A_file
 
 abbrev pub a_directory : ℕ → Answer
-a_directory n = Stated (record { kind = A_directory; num = n; size = 0; links = 1 })
+a_directory n = told A_directory n 0 1
 
 abbrev pub a_pipe : ℕ → Answer
-a_pipe n = Stated (record { kind = A_pipe; num = n; size = 0; links = 0 })
+a_pipe n = told A_pipe n 0 0
+
+abbrev pub a_link : ℕ → ℕ → ℕ → Answer
+a_link = told A_link
+
+abbrev pub a_fifo : ℕ → ℕ → Answer
+a_fifo n links = told A_fifo n 0 links
+
+abbrev pub a_socket : ℕ → ℕ → Answer
+a_socket n links = told A_socket n 0 links

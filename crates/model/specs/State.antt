@@ -6,7 +6,13 @@ use Rattle.model.specs.FiniteMap.{FinMap, get, empty, values}
 use Rattle.std.specs.Ordering.{nat_cmp}
 pub use Rattle.ids.specs.declared.reply.Kind.{Kind}
 pub use Rattle.ids.specs.declared.reply.Kind.TheVariants.{File as A_file, Dir as A_directory}
-pub use Rattle.ids.specs.declared.reply.Kind.TheVariants.{Pipe as A_pipe}
+pub use Rattle.ids.specs.declared.reply.Kind.TheVariants.{Pipe as A_pipe, Link as A_link}
+pub use Rattle.ids.specs.declared.reply.Kind.TheVariants.{Fifo as A_fifo, Socket as A_socket}
+pub use Rattle.ids.specs.declared.fixed.Fixed.{Fixed as Fixed_content}
+pub use Rattle.ids.specs.declared.fixed.Fixed.TheVariants.{Link as Link_to, Fifo, Socket}
+use Rattle.ids.specs.Fixed.{fixed_kind, fixed_target}
+pub use Rattle.ids.specs.declared.rights.Rights.{Rights}
+use Rattle.ids.specs.Rights.{first_rights}
 use Rattle.std.specs.declared.cmp.Ordering.{Ordering}
 use Rattle.std.specs.Cmp.Lexicographic.{slice_cmp}
 use Rattle.std.specs.List.{sum_by, count_by}
@@ -18,12 +24,14 @@ Name = List ℕ
 abbrev pub name_cmp : Name → Name → Ordering
 name_cmp = slice_cmp nat_cmp
 
--- a file's bytes, a directory's names with the numbers that
--- they give, or a pipe's bytes, oldest first
+-- a file's bytes, a directory's names with the numbers that they give, a pipe's bytes, oldest
+-- first, or what never changes: a symbolic link with its target, a FIFO or a socket, which are
+-- names and have no content
 pub data Inode : Type 0 where
   File : List ℕ → Inode
   Directory : FinMap name_cmp ℕ → Inode
   Pipe : List ℕ → Inode
+  Fixed : Fixed_content → Inode
 
 -- an open file description: what it is open on, how, and where it reads and writes next
 pub record Description : Type 0 where
@@ -38,12 +46,14 @@ pub record Process : Type 0 where
   pub table : FinMap nat_cmp ℕ
   pub priority : ℕ
 
--- inodes and descriptions have their numbers from one range;
+-- inodes and descriptions have their numbers from one range; `rights` are those of the inodes whose
+-- permissions or owner were set;
 -- `made` is how many processes were ever made; `largest` is the most bytes of a file, which
 -- nothing changes (POSIX.1-2017, limits.h: the implementation's maximum file size)
 pub record Kernel : Type 0 where
   pub root : ℕ
   pub inodes : FinMap nat_cmp Inode
+  pub rights : FinMap nat_cmp Rights
   pub descriptions : FinMap nat_cmp Description
   pub processes : FinMap nat_cmp Process
   pub made : ℕ
@@ -53,6 +63,7 @@ abbrev pub kind : Inode → Kind
 kind (File bytes) = A_file
 kind (Directory names) = A_directory
 kind (Pipe bytes) = A_pipe
+kind (Fixed fixed) = fixed_kind fixed
 
 abbrev pub names_of_inode : Option Inode → FinMap name_cmp ℕ
 names_of_inode (Some (Directory names)) = names
@@ -65,6 +76,10 @@ file_of_inode _ = []
 abbrev pub pipe_of_inode : Option Inode → List ℕ
 pipe_of_inode (Some (Pipe bytes)) = bytes
 pipe_of_inode _ = []
+
+abbrev pub target_of_inode : Option Inode → List ℕ
+target_of_inode (Some (Fixed fixed)) = fixed_target fixed
+target_of_inode _ = []
 
 abbrev pub mapped : {A B : Type 0} → (A → B) → Option A → Option B
 mapped f (Some x) = Some (f x)
@@ -80,8 +95,19 @@ file_of k n = file_of_inode (get k.inodes n)
 abbrev pub pipe_of : Kernel → ℕ → List ℕ
 pipe_of k n = pipe_of_inode (get k.inodes n)
 
+abbrev pub target_of : Kernel → ℕ → List ℕ
+target_of k n = target_of_inode (get k.inodes n)
+
 abbrev pub kind_of : Kernel → ℕ → Option Kind
 kind_of k n = mapped kind (get k.inodes n)
+
+-- the rights that were set, or else the first ones of the kind
+abbrev pub rights_or : Option Rights → Option Kind → Rights
+rights_or (Some rights) kind = rights
+rights_or None kind = first_rights kind
+
+abbrev pub rights_of : Kernel → ℕ → Rights
+rights_of k n = rights_or (get k.rights n) (kind_of k n)
 
 -- the number that a name gives, and its kind
 abbrev pub entry_of : Kernel → ℕ → Name → Option (ℕ × Option Kind)

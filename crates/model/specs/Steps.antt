@@ -44,6 +44,7 @@ touches k pid call =
 -- a number that is nowhere in the state
 pub record IsNowhere (k : Kernel) (n : ℕ) : Type 0 where
   pub inode : get k.inodes n ≡ None
+  pub rights : get k.rights n ≡ None
   pub description : get k.descriptions n ≡ None
   pub unnamed : (d : ℕ) (x : Name) → get (names_of k d) x ≢ Some n
   pub unheld : (pid f : ℕ) → get (process_of k pid).table f ≢ Some n

@@ -1,10 +1,11 @@
 -- The walk along a path's names, from the root (POSIX.1-2017, 4.13 Pathname Resolution). Each name
--- that is looked up is seen, whether it is there or not.
+-- that is looked up is seen, whether it is there or not. Narrower than there: a walk goes on by no
+-- symbolic link, and is refused at one, as by Linux where a walk is to follow none (openat2).
 use Rattle.std.specs.Prelude.{ℕ, List, [], ◌∷◌, Bool, true, false, not, Option, Some, Result, Ok}
 use Rattle.std.specs.Prelude.{Err}
-use Rattle.model.specs.State.{Name, Kind, A_directory}
-use Rattle.model.specs.Plan.{Errno, ENOENT, ENOTDIR, Look, Plan, Give, Refuse, ◌>>=◌, ◌>>◌, ask}
-use Rattle.model.specs.Plan.{refuse_if, or_refuse}
+use Rattle.model.specs.State.{Name, Kind, A_directory, A_link}
+use Rattle.model.specs.Plan.{Errno, ELOOP, ENOENT, ENOTDIR, Look, Plan, Give, Refuse, ◌>>=◌, ◌>>◌}
+use Rattle.model.specs.Plan.{ask, refuse_if, or_refuse}
 use Rattle.model.specs.Paths.{path_names}
 
 -- a path's names, or its refusal
@@ -23,9 +24,14 @@ abbrev pub is_directory : Place → Bool
 is_directory (n, Some A_directory) = true
 is_directory _ = false
 
+abbrev pub is_link : Place → Bool
+is_link (n, Some A_link) = true
+is_link _ = false
+
 -- one name, where the place that was reached is a directory
 abbrev pub look : Place → Name → Plan (Option Place)
 look place x = do
+  refuse_if (is_link place) ELOOP
   refuse_if (not (is_directory place)) ENOTDIR
   ask (Look place.0 x)
 

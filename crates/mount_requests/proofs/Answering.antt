@@ -6,18 +6,20 @@ use Rattle.fuse.specs.declared.reply.Reply.{Reply}
 use Rattle.fuse.specs.declared.request.Operation.{Operation}
 use Rattle.machine.specs.Shown.{Shown}
 use Rattle.course.specs.Course.{Course, Give, Ran}
-use Rattle.course.specs.Courses.{closing_spare, creating_cut, inside, writing}
+use Rattle.course.specs.Courses.{closing_spare, writing}
 use Rattle.course.specs.declared.fault.Fault.{Fault}
 use Rattle.course.specs.declared.files.Made.{Made}
-use Rattle.course.specs.declared.place.Place.{Place}
+use Rattle.course.specs.declared.made.Cut.{Cut}
 use Rattle.mount_tables.specs.Numbers.{is_reserved}
 use Rattle.mount_requests.specs.Answers.{Answers, AnswersIfRoom, Failed, IsPlanned, NoRoom, Refused, Told, Unplanned}
 use Rattle.mount_requests.specs.Failures.{and_then, error, failure_of}
-use Rattle.mount_requests.specs.Found.{name_at}
-use Rattle.mount_requests.specs.Requests.{AnswersLookUp, AnswersLookUpBy, AnswersName, IsAnswered, OpensAs, making_open, written_by}
+use Rattle.mount_requests.specs.Requests.{AnswersLookUp, AnswersLookUpBy, AnswersName, IsAnswered, IsOfFiles, IsOfNames, OpensAs, making_open, put_by}
 use Rattle.mount_requests.specs.Seen.{Seen}
 use Rattle.mount_requests.specs.declared.failure.Failure.{Failure}
+use Rattle.mount_requests.specs.declared.opening.Creation.{Creation}
 use Rattle.mount_requests.specs.declared.opening.Opening.{Opening}
+use Rattle.mount_requests.specs.declared.planning.NewName.{NewName}
+use Rattle.mount_requests.specs.declared.requests.Caller.{Caller}
 
 pub is_err : {A : Type 0} (r : Result A Failure) {e : Failure} → IsErrAnd r (λ y. y ≡ e) → r ≡ Err e
 is_err (Err y) h = ap Err h
@@ -47,8 +49,8 @@ pub gave : {A : Type 0} {v : Shown} {x r : A} → r ≡ x → Ran v (Give x) r v
 gave e = record { is = (e, refl) }
 
 -- bytes are put at an offset
-pub by_offset : (pid fd : ℕ) (bytes : List ℕ) (o : Option ℤ) (offset : ℤ) {old new : Shown} {r : Result ℕ Fault} → o ≡ Some offset → Ran old (writing pid fd bytes offset) r new → Ran old (written_by pid bytes fd o) r new
-by_offset pid fd bytes o offset {old} {new} {r} e h = subst (λ (z : Option ℤ). Ran old (written_by pid bytes fd z) r new) (sym e) h
+pub by_offset : (pid fd : ℕ) (bytes : List ℕ) (o : Option ℤ) (offset : ℤ) {old new : Shown} {r : Result ℕ Fault} → o ≡ Some offset → Ran old (writing pid fd bytes offset) r new → Ran old (put_by pid bytes fd o) r new
+by_offset pid fd bytes o offset {old} {new} {r} e h = subst (λ (z : Option ℤ). Ran old (put_by pid bytes fd z) r new) (sym e) h
 
 -- ---- answers
 
@@ -80,30 +82,27 @@ by_plan {P} {s = s} {later = later} {old = old} {new = new} {course = course} {S
 
 -- ---- by what a request was
 
-pub opens_as : (s later : Seen) (pid : ℕ) (cut : Bool) {o p : Opening} {old new : Shown} {r : Result Reply Failure} → o ≡ p → OpensAs s later pid cut (Ok p) old new r → OpensAs s later pid cut (Ok o) old new r
-opens_as s later pid cut {old = old} {new = new} {r = r} e h = subst (λ (x : Opening). OpensAs s later pid cut (Ok x) old new r) (sym e) h
+pub opens_as : (s later : Seen) (pid node : ℕ) (cut : Cut) {o p : Opening} {old new : Shown} {r : Result Reply Failure} → o ≡ p → OpensAs s later pid node cut (Ok p) old new r → OpensAs s later pid node cut (Ok o) old new r
+opens_as s later pid node cut {old = old} {new = new} {r = r} e h = subst (λ (x : Opening). OpensAs s later pid node cut (Ok x) old new r) (sym e) h
 
 pub not_reserved : (s later : Seen) (pid node : ℕ) (name : List ℕ) {old new : Shown} {r : Result Reply Failure} → is_reserved node name ≡ false → AnswersName s later pid node name old new r → AnswersLookUp s later pid node name old new r
 not_reserved s later pid node name {old} {new} {r} e h = subst (λ (b : Bool). AnswersLookUpBy b s later pid node name old new r) (sym e) h
 
-pub answers : (s later : Seen) (pid node : ℕ) {o p : Operation} (old new : Shown) (r : Result Reply Failure) → o ≡ p → IsAnswered s later pid node p old new r → IsAnswered s later pid node o old new r
-answers s later pid node old new r e h = subst (λ (x : Operation). IsAnswered s later pid node x old new r) (sym e) h
+pub answers : (s later : Seen) (pid : ℕ) (who : Caller) {o p : Operation} (old new : Shown) (r : Result Reply Failure) → o ≡ p → IsAnswered s later pid who p old new r → IsAnswered s later pid who o old new r
+answers s later pid who old new r e h = subst (λ (x : Operation). IsAnswered s later pid who x old new r) (sym e) h
+
+pub answers_names : (s later : Seen) (pid : ℕ) (who : Caller) {o p : Operation} (old new : Shown) (r : Result Reply Failure) → o ≡ p → IsOfNames s later pid who p old new r → IsOfNames s later pid who o old new r
+answers_names s later pid who old new r e h = subst (λ (x : Operation). IsOfNames s later pid who x old new r) (sym e) h
+
+pub answers_files : (s later : Seen) (pid node : ℕ) {o p : Operation} (old new : Shown) (r : Result Reply Failure) → o ≡ p → IsOfFiles s later pid node p old new r → IsOfFiles s later pid node o old new r
+answers_files s later pid node old new r e h = subst (λ (x : Operation). IsOfFiles s later pid node x old new r) (sym e) h
 
 -- the same process, and the same state
-pub answered_as : (s later : Seen) {pid process : ℕ} (node : ℕ) (operation : Operation) {old before : Shown} (new : Shown) (r : Result Reply Failure) → process ≡ pid → before ≡ old → IsAnswered s later process node operation before new r → IsAnswered s later pid node operation old new r
-answered_as s later {pid} {process} node operation {old} {before} new r a b h = subst (λ (p : ℕ). IsAnswered s later p node operation old new r) a (subst (λ (v : Shown). IsAnswered s later process node operation v new r) b h)
-
--- a file that is made, by other names of the second path and the flags
-pub made_by : (pid : ℕ) (place : Option Place) (path again : List ℕ) (exclusive is_exclusive cut is_cut : Bool) {old new : Shown} {r : Result Made Fault} → again ≡ path → exclusive ≡ is_exclusive → cut ≡ is_cut → Ran old (inside pid place (creating_cut pid path again exclusive cut)) r new → Ran old (inside pid place (creating_cut pid path path is_exclusive is_cut)) r new
-made_by pid place path again exclusive is_exclusive cut is_cut {old} {new} {r} a b d h =
-    subst (λ (z : Bool). Ran old (inside pid place (creating_cut pid path path is_exclusive z)) r new) d
-    (subst (λ (z : Bool). Ran old (inside pid place (creating_cut pid path path z cut)) r new) b
-    (subst (λ (z : List ℕ). Ran old (inside pid place (creating_cut pid path z exclusive cut)) r new) a h))
+pub answered_as : (s later : Seen) {pid process : ℕ} (who : Caller) (operation : Operation) {old before : Shown} (new : Shown) (r : Result Reply Failure) → process ≡ pid → before ≡ old → IsAnswered s later process who operation before new r → IsAnswered s later pid who operation old new r
+answered_as s later {pid} {process} who operation {old} {before} new r a b h = subst (λ (p : ℕ). IsAnswered s later p who operation old new r) a (subst (λ (v : Shown). IsAnswered s later process who operation v new r) b h)
 
 pub spare_by : (pid : ℕ) (is_open was_open : Bool) (made : Made) {old new : Shown} {r : Result Made Fault} → is_open ≡ was_open → Ran old (closing_spare pid is_open made) r new → Ran old (closing_spare pid was_open made) r new
 spare_by pid is_open was_open made {old} {new} {r} e h = subst (λ (z : Bool). Ran old (closing_spare pid z made) r new) e h
 
-pub making_as : (s u : Seen) (pid flags view : ℕ) (place : Option Place) {path again : List ℕ} {old new : Shown} {r : Result Made Fault} → u ≡ s → again ≡ path → Ran old (making_open u pid flags (name_at view again place)) r new → Ran old (making_open s pid flags (name_at view path place)) r new
-making_as s u pid flags view place {path} {again} {old} {new} {r} a b h =
-    subst (λ (q : List ℕ). Ran old (making_open s pid flags (name_at view q place)) r new) b
-    (subst (λ (v : Seen). Ran old (making_open v pid flags (name_at view again place)) r new) a h)
+pub making_as : (s u : Seen) (pid : ℕ) (creation : Creation) (p : NewName) {old new : Shown} {r : Result Made Fault} → u ≡ s → Ran old (making_open u pid creation p) r new → Ran old (making_open s pid creation p) r new
+making_as s u pid creation p {old} {new} {r} e h = subst (λ (v : Seen). Ran old (making_open v pid creation p) r new) e h

@@ -11,19 +11,25 @@ use Rattle.fuse.specs.declared.request.Operation.TheVariants as asked
 use Rattle.machine.specs.Shown.{Shown}
 use Rattle.course.specs.Course.{Course}
 use Rattle.course.specs.declared.fault.Fault.{Fault}
+use Rattle.nodes.specs.Tables.{is_current}
 use Rattle.course.specs.declared.files.Made.{Made}
+use Rattle.course.specs.declared.made.Cut.{Cut}
 use Rattle.mount_tables.specs.Numbers.{is_reserved}
 use Rattle.mount_tables.specs.Processes.{held, let_go}
 use Rattle.mount_tables.specs.declared.processes.Role.{Role}
 use Rattle.mount_tables.specs.declared.processes.Role.TheVariants.{Holder, Idle, Of}
 use Rattle.mount_requests.specs.Answers.{Answered, Answers, AnswersIfRoom, Failed, NoRoom, Refused, Told, Unplanned}
+use Rattle.mount_requests.specs.Asked.{cut_by}
 use Rattle.mount_requests.specs.Found.{handle_of}
 use Rattle.mount_requests.specs.Keeping.{AreKept, Keeps, purpose}
-use Rattle.mount_requests.specs.Requests.{AnswersLookUpBy, IsAnswered, opened_first, with_open_by, with_opening}
+use Rattle.mount_requests.specs.Later.{opened_first}
+use Rattle.mount_requests.specs.Requests.{AnswersLookUpBy, IsAnswered, with_open_by, with_opening}
+use Rattle.mount_requests.specs.Times.{Events, with_events_if}
 use Rattle.mount_requests.specs.Seen.{Seen}
 use Rattle.mount_requests.specs.declared.failure.Failure.{Failure}
 use Rattle.mount_requests.specs.declared.opening.Opening.{Opening}
 use Rattle.mount_requests.specs.declared.opening.Opening.TheVariants.{Again, First}
+use Rattle.mount_requests.specs.declared.requests.Caller.{Caller}
 
 abbrev pub Roles : Type 0
 Roles = map.FinMap nat_cmp Role
@@ -90,9 +96,14 @@ held_if false pid r = kept_same r
 first_keeps : (s : Seen) (view inode pid fd : ℕ) → Keeps s (opened_first s view inode pid fd)
 first_keeps s view inode pid fd = record { views = refl; names = refl; next = refl; roles = held_if (view == 0) pid s.roles }
 
-opening_keeps : (s : Seen) (pid : ℕ) (o : Opening) (fd : ℕ) → Keeps s (with_opening s pid o fd)
-opening_keeps s pid (Again inode handle kept) fd = stands _ refl refl refl refl
-opening_keeps s pid (First view path inode) fd = first_keeps s view inode pid fd
+-- what is noted of times changes nothing of it
+events_keep : (b : Bool) (s : Seen) (node : ℕ) (events : Events) → Keeps s (with_events_if b node events s)
+events_keep true s node events = stands _ refl refl refl refl
+events_keep false s node events = keeps_is refl
+
+opening_keeps : (s : Seen) (pid node : ℕ) (how : Cut) (o : Opening) (fd : ℕ) → Keeps s (with_opening s pid node how o fd)
+opening_keeps s pid node how (Again inode handle kept) fd = stands _ refl refl refl refl
+opening_keeps s pid node how (First view path inode) fd = record { views = refl; names = refl; next = refl; roles = held_if (view == 0) pid s.roles }
 
 open_keeps : (s : Seen) (view pid : ℕ) (made : Made) (o : Option ℕ) → Keeps s (with_open_by s view pid made o)
 open_keeps s view pid made (Some handle) = stands _ refl refl refl refl
@@ -108,32 +119,34 @@ look_up_keeps : (b : Bool) (s later : Seen) (pid node : ℕ) (name : List ℕ) (
 look_up_keeps true s later pid node name old new r h = keeps_is h.2
 look_up_keeps false s later pid node name old new r h = answers_keep (λ p x known told k. keeps_to k.1 (stands _ refl refl refl refl)) h
 
-pub answered_keeps : (s later : Seen) (pid node : ℕ) (o : Operation) (old new : Shown) (r : Result Reply Failure) → IsAnswered s later pid node o old new r → Keeps s later
-answered_keeps s later pid node (asked.Lookup name) old new r h = look_up_keeps (is_reserved node name) s later pid node name old new r h
-answered_keeps s later pid node (asked.GetAttr x) old new r h = answers_keep (λ p x known told k. keeps_is k.1) h
-answered_keeps s later pid node (asked.SetAttr x) old new r h = answers_keep (λ p x known told k. keeps_is k.1) h
-answered_keeps s later pid node asked.OpenDir old new r h = looks_keep (λ p x known told k. keeps_to k.1 (stands _ refl refl refl refl)) h
-answered_keeps s later pid node (asked.ReadDir x y z) old new r h = looks_keep (λ p x known told k. keeps_to k.1 (stands _ refl refl refl refl)) h
-answered_keeps s later pid node (asked.Access x) old new r h = keeps_is h.2
-answered_keeps s later pid node (asked.MkNod x y) old new r h = answers_keep (λ p x known told k. keeps_to k.1 (stands _ refl refl refl refl)) h
-answered_keeps s later pid node (asked.MkDir x y) old new r h = answers_keep (λ p x known told k. keeps_to k.1 (stands _ refl refl refl refl)) h
-answered_keeps s later pid node (asked.Unlink x) old new r h = answers_keep (λ p x known told k. keeps_to k.1 (stands _ refl refl refl refl)) h
-answered_keeps s later pid node (asked.RmDir x) old new r h = answers_keep (λ p x known told k. keeps_to k.1 (stands _ refl refl refl refl)) h
-answered_keeps s later pid node (asked.Rename x y z w) old new r h = answers_keep (λ p x known told k. keeps_to k.1 (stands _ refl refl refl refl)) h
-answered_keeps s later pid node (asked.Link x y) old new r h = answers_keep (λ p x known told k. keeps_to k.1 (stands _ refl refl refl refl)) h
-answered_keeps s later pid node (asked.Create x y z) old new r h = answers_keep (λ p made known told k. keeps_to k.1 (created_keeps s p.view pid made _ refl refl refl refl)) h
-answered_keeps s later pid node (asked.Open x) old new r h = answers_keep (λ p fd known told k. keeps_to k.1 (opening_keeps s pid p fd)) h
-answered_keeps s later pid node (asked.Read x y z w) old new r h = answers_keep (λ p x known told k. keeps_is k.1) h
-answered_keeps s later pid node (asked.Write x y z w v) old new r h = answers_keep (λ p x known told k. keeps_is k.1) h
-answered_keeps s later pid node (asked.Lseek x y z) old new r h = answers_keep (λ p x known told k. keeps_is k.1) h
-answered_keeps s later pid node (asked.Forget x) old new r h = keeps_is h.2
-answered_keeps s later pid node (asked.BatchForget x) old new r h = keeps_is h.2
-answered_keeps s later pid node (asked.Flush x) old new r h = keeps_is h.2
-answered_keeps s later pid node (asked.Release x y) old new r h = keeps_is h.2
-answered_keeps s later pid node (asked.Fsync x) old new r h = keeps_is h.2
-answered_keeps s later pid node (asked.ReleaseDir x) old new r h = keeps_is h.2
-answered_keeps s later pid node asked.StatFs old new r h = keeps_is h.2
-answered_keeps s later pid node (asked.Init x y z w) old new r h = keeps_is h.2
-answered_keeps s later pid node asked.Destroy old new r h = keeps_is h.2
-answered_keeps s later pid node (asked.Interrupt x) old new r h = keeps_is h.2
-answered_keeps s later pid node (asked.Other x) old new r h = keeps_is h.2
+pub answered_keeps : (s later : Seen) (pid : ℕ) (who : Caller) (o : Operation) (old new : Shown) (r : Result Reply Failure) → IsAnswered s later pid who o old new r → Keeps s later
+answered_keeps s later pid who (asked.Lookup name) old new r h = look_up_keeps (is_reserved who.node name) s later pid who.node name old new r h
+answered_keeps s later pid who (asked.GetAttr x) old new r h = answers_keep (λ p x known told k. keeps_is k.1) h
+answered_keeps s later pid who (asked.SetAttr x) old new r h = answers_keep (λ p x known told k. keeps_to k.1 (events_keep (is_current s.nodes who.node) s who.node _)) h
+answered_keeps s later pid who asked.ReadLink old new r h = answers_keep (λ p x known told k. keeps_is k.1) h
+answered_keeps s later pid who asked.OpenDir old new r h = looks_keep (λ p x known told k. keeps_to k.1 (stands _ refl refl refl refl)) h
+answered_keeps s later pid who (asked.ReadDir x y z) old new r h = looks_keep (λ p x known told k. keeps_to k.1 (stands _ refl refl refl refl)) h
+answered_keeps s later pid who (asked.Access x) old new r h = keeps_is h.2
+answered_keeps s later pid who (asked.SymLink x y) old new r h = answers_keep (λ p x known told k. keeps_to k.1 (stands _ refl refl refl refl)) h
+answered_keeps s later pid who (asked.MkNod x y) old new r h = answers_keep (λ p x known told k. keeps_to k.1 (stands _ refl refl refl refl)) h
+answered_keeps s later pid who (asked.MkDir x y) old new r h = answers_keep (λ p x known told k. keeps_to k.1 (stands _ refl refl refl refl)) h
+answered_keeps s later pid who (asked.Unlink x) old new r h = answers_keep (λ p x known told k. keeps_to k.1 (stands _ refl refl refl refl)) h
+answered_keeps s later pid who (asked.RmDir x) old new r h = answers_keep (λ p x known told k. keeps_to k.1 (stands _ refl refl refl refl)) h
+answered_keeps s later pid who (asked.Rename x y z w) old new r h = answers_keep (λ p x known told k. keeps_to k.1 (stands _ refl refl refl refl)) h
+answered_keeps s later pid who (asked.Link x y) old new r h = answers_keep (λ p x known told k. keeps_to k.1 (stands _ refl refl refl refl)) h
+answered_keeps s later pid who (asked.Create x y z w) old new r h = answers_keep (λ p made known told k. keeps_to k.1 (created_keeps s p.view pid made _ refl refl refl refl)) h
+answered_keeps s later pid who (asked.Open x y) old new r h = answers_keep (λ p fd known told k. keeps_to k.1 (opening_keeps s pid who.node (cut_by x y) p fd)) h
+answered_keeps s later pid who (asked.Read x y z w) old new r h = answers_keep (λ p x known told k. keeps_is k.1) h
+answered_keeps s later pid who (asked.Write x y z w v) old new r h = answers_keep (λ p x known told k. keeps_to k.1 (stands _ refl refl refl refl)) h
+answered_keeps s later pid who (asked.Lseek x y z) old new r h = answers_keep (λ p x known told k. keeps_is k.1) h
+answered_keeps s later pid who (asked.Forget x) old new r h = keeps_is h.2
+answered_keeps s later pid who (asked.BatchForget x) old new r h = keeps_is h.2
+answered_keeps s later pid who (asked.Flush x) old new r h = keeps_is h.2
+answered_keeps s later pid who (asked.Release x y) old new r h = keeps_is h.2
+answered_keeps s later pid who (asked.Fsync x) old new r h = keeps_is h.2
+answered_keeps s later pid who (asked.ReleaseDir x) old new r h = keeps_is h.2
+answered_keeps s later pid who asked.StatFs old new r h = keeps_is h.2
+answered_keeps s later pid who (asked.Init x y z w) old new r h = keeps_is h.2
+answered_keeps s later pid who asked.Destroy old new r h = keeps_is h.2
+answered_keeps s later pid who (asked.Interrupt x) old new r h = keeps_is h.2
+answered_keeps s later pid who (asked.Other x) old new r h = keeps_is h.2

@@ -9,8 +9,11 @@ use Rattle.fuse.specs.declared.errno.Errno.TheVariants as errno
 use Rattle.nodes.specs.Paths.{Way, path_of}
 use Rattle.nodes.specs.Tables.{is_current, root_of}
 use Rattle.nodes.specs.declared.node.Node.{Node}
+use Rattle.course.specs.declared.making.Again.{Again}
+use Rattle.course.specs.declared.names.Twice.{Twice}
 use Rattle.course.specs.declared.objects.Object.{Object}
 use Rattle.course.specs.declared.place.Place.{Place}
+use Rattle.course.specs.declared.updates.Paths.{Paths}
 use Rattle.mount_tables.specs.Folders.{Opened}
 use Rattle.mount_tables.specs.Numbers.{is_reserved, view_of}
 use Rattle.mount_tables.specs.declared.open_files.OpenFile.{OpenFile}
@@ -22,6 +25,7 @@ use Rattle.mount_requests.specs.Seen.{Seen}
 use Rattle.mount_requests.specs.declared.failure.Failure.{Failure}
 use Rattle.mount_requests.specs.declared.planning.Located.{Located}
 use Rattle.mount_requests.specs.declared.planning.LocatedName.{LocatedName}
+use Rattle.mount_requests.specs.declared.planning.NewName.{NewName}
 use Rattle.mount_requests.specs.declared.tables.Stepper.{Stepper}
 
 -- ---- views
@@ -112,6 +116,40 @@ located_child s node name = and_then (located s node) (λ p.
 abbrev pub located_new : Seen → ℕ → List ℕ → Result LocatedName Failure
 located_new s node name =
     if is_reserved node name then Err (error errno.EPERM) else located_child s node name
+
+-- where something is made, with its path once for each further use, and its directory: a root too, which
+-- is the first object of all
+abbrev pub again : List ℕ → Again
+again path = record { owned = path; permitted = path; told = path }
+
+abbrev pub home_in : Option Place → Place
+home_in (Some place) = place
+home_in None = record { path = 47 ∷ []; inode = 0 }
+
+abbrev pub new_name : LocatedName → NewName
+new_name p =
+    record { view = p.view; path = p.path; again = again p.path; parent = home_in p.place }
+
+abbrev pub located_made : Seen → ℕ → List ℕ → Result NewName Failure
+located_made s node name = and_then (located_new s node name) (λ p. Ok (new_name p))
+
+-- the path of a node as the kernel takes it, where it has one, once for each use
+abbrev pub each_use : List ℕ → Paths
+each_use path = record { looked = path; sized = path; owned = path; permitted = path }
+
+abbrev pub paths_to : Seen → ℕ → Option Paths
+paths_to s node = option_map each_use (option_map own_path (path_to s node))
+
+-- or twice
+abbrev pub twice : List ℕ → Twice
+twice path = record { first = path; second = path }
+
+abbrev pub own_paths : Seen → ℕ → Option Twice
+own_paths s node = option_map twice (option_map own_path (path_to s node))
+
+-- the first use of these
+abbrev pub once : Option Twice → Option (List ℕ)
+once paths = option_map (λ (p : Twice). p.first) paths
 
 -- ---- open files
 

@@ -10,6 +10,7 @@ use Rattle.mount_tables.specs.declared.processes.Role.TheVariants.{Holder, Idle,
 use Rattle.mount_requests.specs.Requests.{IsAnswered}
 use Rattle.mount_requests.specs.Seen.{Seen}
 use Rattle.mount_requests.specs.declared.failure.Failure.{Failure}
+use Rattle.mount_requests.specs.declared.requests.Caller.{Caller}
 
 -- what a process is for, however many files it has open
 abbrev pub purpose : Option Role → Option Role
@@ -31,5 +32,5 @@ pub record Keeps (s later : Seen) : Type 0 where
 
 -- so it is for each request about a node, whatever it comes to
 pub record RequestsKeepViews : Type 0 where
-  pub keeps : (s later : Seen) (pid node : ℕ) (operation : Operation) (old new : Shown)
-      (r : Result Reply Failure) → IsAnswered s later pid node operation old new r → Keeps s later
+  pub keeps : (s later : Seen) (pid : ℕ) (who : Caller) (operation : Operation) (old new : Shown)
+      (r : Result Reply Failure) → IsAnswered s later pid who operation old new r → Keeps s later

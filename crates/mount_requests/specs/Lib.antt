@@ -2,9 +2,13 @@ pub mod Failures
 pub mod Seen
 pub mod Found
 pub mod Answers
+pub mod Asked
 pub mod Told
 pub mod Listed
+pub mod Times
+pub mod Later
 pub mod Requests
 pub mod Aborts
 pub mod WholeLists
 pub mod Keeping
+pub mod Apart

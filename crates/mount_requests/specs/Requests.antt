@@ -1,7 +1,7 @@
 -- The plan of each request about a node of a tree, its course, what its reply shows, and what is known
--- then of nodes and open files: all that is not told here stands.
-use Rattle.std.specs.Prelude.{◌≡◌, ℕ, ◌+◌, ◌==◌, ◌||◌, ◌&&◌, ◌/◌, ◌%◌, ◌^◌, not, min, nat_lt, bit_and, ℤ, pos}
-use Rattle.std.specs.Prelude.{List, [], Bool, true, false, Option, Some, None, is_some, option_map}
+-- then of nodes, open files and times: all that is not told here stands.
+use Rattle.std.specs.Prelude.{◌≡◌, ℕ, ◌+◌, ◌==◌, ◌&&◌, min, ℤ}
+use Rattle.std.specs.Prelude.{List, [], Bool, true, false, Option, Some, None, is_some}
 use Rattle.std.specs.Prelude.{Result, Ok, Err, if◌then◌else◌}
 use Rattle.model.specs.FiniteMap as map
 use Rattle.ids.specs.declared.call.Call.TheVariants as call
@@ -15,87 +15,49 @@ use Rattle.fuse.specs.declared.request.Operation.{Operation}
 use Rattle.fuse.specs.declared.request.Operation.TheVariants as asked
 use Rattle.fuse.specs.declared.request.Whence.{Whence}
 use Rattle.machine.specs.Shown.{Shown}
-use Rattle.nodes.specs.Tables.{detached, looked_up, made}
-use Rattle.nodes.specs.Tables.{moved as renamed}
-use Rattle.nodes.specs.Tables.{Table}
+use Rattle.nodes.specs.Tables.{Table, is_current, looked_up, made}
 use Rattle.course.specs.Course.{Course, Give, ◌>>=◌}
-use Rattle.course.specs.Courses.{appending, closing_spare, creating_cut, cutting, doing, finding}
-use Rattle.course.specs.Courses.{inside, linking, listing_at, making, making_file, moving, on_ok}
-use Rattle.course.specs.Courses.{opening_cut, reading, resizing, stating, writing}
+use Rattle.course.specs.Courses.{appending, closing_spare, creating_in, cutting, doing, dropping_if}
+use Rattle.course.specs.Courses.{finding, inside, linking, listing_at, making_directory}
+use Rattle.course.specs.Courses.{making_inside, making_link, making_node, moving, on_ok, opening_cut}
+use Rattle.course.specs.Courses.{reading, reading_link, stating, updating, writing}
 use Rattle.course.specs.declared.fault.Fault.{Fault}
 use Rattle.course.specs.declared.files.Made.{Made}
-use Rattle.course.specs.declared.names.Twice.{Twice}
-use Rattle.mount_tables.specs.Files.{counted}
+use Rattle.course.specs.declared.made.Cut.{Cut}
+use Rattle.course.specs.declared.updates.Update.{Update}
 use Rattle.mount_tables.specs.Folders.{Opened}
 use Rattle.mount_tables.specs.Numbers.{is_reserved}
-use Rattle.mount_tables.specs.Processes.{held}
 use Rattle.mount_tables.specs.declared.open_files.OpenFile.{OpenFile}
 use Rattle.mount_requests.specs.Answers.{Answers, AnswersIfRoom, Says}
+use Rattle.mount_requests.specs.Asked.{absent_in, creation, cut_by, drops, given, length_in, offset_by}
+use Rattle.mount_requests.specs.Asked.{offset_in, owner_by, permissions_by, special_in, update_of}
 use Rattle.mount_requests.specs.Failures.{and_then, error, found_or}
 use Rattle.mount_requests.specs.Found.{file_by, folder_at, handle_at, handle_of, inode_of, located_child}
-use Rattle.mount_requests.specs.Found.{located_new, located_own, object_of, own_path, path_to}
-use Rattle.mount_requests.specs.Found.{shown_names, stepper_at}
+use Rattle.mount_requests.specs.Found.{located_made, located_new, located_own, object_of, once}
+use Rattle.mount_requests.specs.Found.{own_paths, paths_to, shown_names, stepper_at, twice}
+use Rattle.mount_requests.specs.Later.{opened_again, opened_first, with_creation, with_link}
+use Rattle.mount_requests.specs.Later.{with_look_up, with_made, with_move, without_name}
 use Rattle.mount_requests.specs.Listed.{Lists}
 use Rattle.mount_requests.specs.Seen.{Seen}
+use Rattle.mount_requests.specs.Times.{of_cutting, of_setting, of_writing, times_at, times_if}
+use Rattle.mount_requests.specs.Times.{with_events, with_events_if}
 use Rattle.mount_requests.specs.Told.{ShowsAttributes, ShowsBytes, ShowsCount, ShowsCreated, ShowsEntry}
 use Rattle.mount_requests.specs.Told.{ShowsHandle, ShowsNothing, ShowsSought, named, sought}
 use Rattle.mount_requests.specs.declared.changing.Setting.{Setting}
 use Rattle.mount_requests.specs.declared.failure.Failure.{Failure}
 use Rattle.mount_requests.specs.declared.files.Reading.{Reading}
 use Rattle.mount_requests.specs.declared.files.Writing.{Writing}
+use Rattle.mount_requests.specs.declared.looking.Linked.{Linked}
 use Rattle.mount_requests.specs.declared.making.Linking.{Linking}
+use Rattle.mount_requests.specs.declared.making.NewNode.{NewNode}
+use Rattle.mount_requests.specs.declared.opening.Creation.{Creation}
 use Rattle.mount_requests.specs.declared.opening.Opening.{Opening}
 use Rattle.mount_requests.specs.declared.opening.Opening.TheVariants.{Again, First}
 use Rattle.mount_requests.specs.declared.planning.LocatedName.{LocatedName}
+use Rattle.mount_requests.specs.declared.planning.NewName.{NewName}
 use Rattle.mount_requests.specs.declared.reading.Directory.{Directory}
 use Rattle.mount_requests.specs.declared.removing.Moving.{Moving}
-
--- whether a flag is among these
-abbrev pub has_flag : ℕ → ℕ → Bool
-has_flag flags flag = not (bit_and flags flag == 0)
-
--- a path that is used twice
-abbrev pub twice : List ℕ → Twice
-twice path = record { first = path; second = path }
-
-abbrev pub own_paths : Seen → ℕ → Option Twice
-own_paths s node = option_map twice (option_map own_path (path_to s node))
-
--- the first use of it
-abbrev pub once : Option Twice → Option (List ℕ)
-once paths = option_map (λ (p : Twice). p.first) paths
-
--- ---- what is known then
-
--- a name was looked up, and gave an object
-abbrev pub with_look_up : Seen → ℕ → List ℕ → Stat → Seen
-with_look_up s node name stat =
-    record s { nodes = looked_up s.nodes (named node name) stat.num stat.kind }
-
--- an object was made, and what its number meant before is gone
-abbrev pub with_birth : Seen → Stat → Seen
-with_birth s stat = record s { nodes = made s.nodes stat.num }
-
-abbrev pub with_made : Seen → ℕ → List ℕ → Stat → Seen
-with_made s node name stat = with_look_up (with_birth s stat) node name stat
-
--- a name was taken away
-abbrev pub without_name : Seen → ℕ → List ℕ → Seen
-without_name s node name = record s { nodes = detached s.nodes (named node name) }
-
--- a file was opened by a descriptor of a process, which has one more in the plain tree
-abbrev pub opened_first : Seen → ℕ → ℕ → ℕ → ℕ → Seen
-opened_first s view inode pid fd = record s {
-  files = map.insert s.files s.next_file
-      (record { view = view; inode = inode; pid = pid; fd = fd; opens = 1 });
-  handles = map.insert s.handles (record { view = view; inode = inode }) s.next_file;
-  next_file = s.next_file + 1;
-  roles = if view == 0 then held pid (map.get s.roles pid) s.roles else s.roles;
-}
-
--- or once more under the number that it has
-abbrev pub opened_again : Seen → ℕ → Seen
-opened_again s handle = record s { files = counted handle (map.get s.files handle) s.files }
+use Rattle.mount_requests.specs.declared.requests.Caller.{Caller}
 
 -- ---- looking
 
@@ -108,8 +70,9 @@ IsReserved node (Err e) = e ≡ error errno.ENOENT
 abbrev pub AnswersName : Seen → Seen → ℕ → ℕ → List ℕ → Shown → Shown → Result Reply Failure → Type 0
 AnswersName s later pid node name old new result =
     Answers s later old new (located_child s node name)
-    (λ p. inside pid p.place (stating pid (call.Stat p.path)))
-    (λ p stat known r. Says (ShowsEntry s.nodes (named node name) stat) r
+    (λ p. inside pid p.place (stating pid (call.Lstat p.path)))
+    (λ p stat known r.
+    Says (ShowsEntry s.nodes (named node name) stat (times_at s s.times node stat.num)) r
     × (known ≡ with_look_up s node name stat)) result
 
 abbrev pub AnswersLookUpBy : Bool → Seen → Seen → ℕ → ℕ → List ℕ → Shown → Shown
@@ -127,66 +90,82 @@ AnswersLookUp s later pid node name old new result =
 abbrev pub AnswersGetAttr : Seen → Seen → ℕ → ℕ → Shown → Shown → Result Reply Failure → Type 0
 AnswersGetAttr s later pid node old new result =
     Answers s later old new (object_of s pid node) (finding pid)
-    (λ o stat known r. Says (ShowsAttributes stat) r × (known ≡ s)) result
+    (λ o stat known r. Says (ShowsAttributes stat (times_if s s.times node stat.num)) r
+    × (known ≡ s)) result
+
+-- the object of a node, by its path: a symbolic link, if its target is told
+abbrev pub linked : Seen → ℕ → Result Linked Failure
+linked s node = and_then (located_own s node) (λ p.
+    Ok (record { paths = twice p.path; inode = inode_of s node }))
+
+abbrev pub AnswersReadLink : Seen → Seen → ℕ → ℕ → Shown → Shown → Result Reply Failure → Type 0
+AnswersReadLink s later pid node old new result =
+    Answers s later old new (linked s node) (λ l. reading_link pid l.paths.first l.inode)
+    (λ l target known r. Says (ShowsBytes target) r × (known ≡ s)) result
 
 -- ---- setting
 
--- a length that is set, which files may have
-abbrev pub length_in : Option ℕ → Result (Option ℕ) Failure
-length_in (Some size) =
-    if nat_lt size (2 ^ 32) then Ok (Some size) else Err (error errno.EFBIG)
-length_in None = Ok None
-
-abbrev pub setting : Seen → ℕ → ℕ → Option ℕ → Result Setting Failure
-setting s pid node size = and_then (length_in size) (λ length.
+abbrev pub setting : Seen → ℕ → ℕ → Changes → Result Setting Failure
+setting s pid node changes = and_then (length_in changes.size) (λ length.
     and_then (object_of s pid node) (λ o. Ok (record {
       object = o;
-      length = length;
-      path = own_paths s node;
+      update = update_of length (owner_by changes) (permissions_by changes.mode);
+      paths = paths_to s node;
     })))
 
-abbrev pub setting_by : ℕ → Setting → Option ℕ → Course (Result Stat Fault)
-setting_by pid s (Some length) = resizing pid s.object (once s.path) length
+abbrev pub setting_by : ℕ → Setting → Option Update → Course (Result Stat Fault)
+setting_by pid s (Some update) = updating pid s.object s.paths update
 setting_by pid s None = finding pid s.object
 
 abbrev pub AnswersSetAttr : Seen → Seen → ℕ → ℕ → Changes → Shown → Shown → Result Reply Failure
     → Type 0
 AnswersSetAttr s later pid node changes old new result =
-    Answers s later old new (setting s pid node changes.size) (λ p. setting_by pid p p.length)
-    (λ p stat known r. Says (ShowsAttributes stat) r × (known ≡ s)) result
+    Answers s later old new (setting s pid node changes) (λ p. setting_by pid p p.update)
+    (λ p stat known r. Says (ShowsAttributes stat (times_if s known.times node stat.num)) r
+    × (known ≡ with_events_if (is_current s.nodes node) node (of_setting changes s.time stat.num) s))
+    result
 
 -- ---- making names
 
-abbrev pub AnswersMkDir : Seen → Seen → ℕ → ℕ → List ℕ → Shown → Shown → Result Reply Failure
-    → Type 0
-AnswersMkDir s later pid node name old new result =
-    Answers s later old new (located_new s node name)
-    (λ p. inside pid p.place (making pid (call.Mkdir p.path) p.path))
-    (λ p stat known r. Says (ShowsEntry (made s.nodes stat.num) (named node name) stat) r
-    × (known ≡ with_made s node name stat)) result
+-- what was made, with the times that it has then
+abbrev pub ShowsMade : Seen → Seen → ℕ → List ℕ → Stat → Result Reply Failure → Type 0
+ShowsMade s known node name stat r = Says (ShowsEntry (made s.nodes stat.num) (named node name) stat
+    (times_at s known.times node stat.num)) r
 
--- only plain files are made, and a mode that tells no kind means them
-abbrev pub plain_kind : ℕ → Result (Unit {0}) Failure
-plain_kind mode =
-    if mode / 4096 % 16 == 8 || mode / 4096 % 16 == 0 then Ok tt
-    else Err (error errno.EOPNOTSUPP)
+abbrev pub AnswersMkDir : Seen → Seen → ℕ → Caller → List ℕ → ℕ → Shown → Shown
+    → Result Reply Failure → Type 0
+AnswersMkDir s later pid who name mode old new result =
+    Answers s later old new (located_made s who.node name)
+    (λ p. making_inside pid p.parent (making_directory pid p.path p.again (given who.owner mode)))
+    (λ p stat known r. ShowsMade s known who.node name stat r
+    × (known ≡ with_made s who.node name stat)) result
 
-abbrev pub planned_file : Seen → ℕ → List ℕ → ℕ → Result LocatedName Failure
-planned_file s node name mode = and_then (plain_kind mode) (λ plain. located_new s node name)
+abbrev pub AnswersSymLink : Seen → Seen → ℕ → Caller → List ℕ → List ℕ → Shown → Shown
+    → Result Reply Failure → Type 0
+AnswersSymLink s later pid who name target old new result =
+    Answers s later old new (located_made s who.node name)
+    (λ p. making_inside pid p.parent (making_link pid target p.path p.again who.owner))
+    (λ p stat known r. ShowsMade s known who.node name stat r
+    × (known ≡ with_made s who.node name stat)) result
 
-abbrev pub AnswersMkNod : Seen → Seen → ℕ → ℕ → List ℕ → ℕ → Shown → Shown → Result Reply Failure
-    → Type 0
-AnswersMkNod s later pid node name mode old new result =
-    Answers s later old new (planned_file s node name mode)
-    (λ p. inside pid p.place (making_file pid p.path p.path))
-    (λ p stat known r. Says (ShowsEntry (made s.nodes stat.num) (named node name) stat) r
-    × (known ≡ with_made s node name stat)) result
+abbrev pub planned_node : Seen → ℕ → List ℕ → ℕ → Result NewNode Failure
+planned_node s node name mode = and_then (special_in mode) (λ special.
+    and_then (located_made s node name) (λ at. Ok (record { at = at; special = special })))
+
+abbrev pub AnswersMkNod : Seen → Seen → ℕ → Caller → List ℕ → ℕ → Shown → Shown
+    → Result Reply Failure → Type 0
+AnswersMkNod s later pid who name mode old new result =
+    Answers s later old new (planned_node s who.node name mode)
+    (λ p. making_inside pid p.at.parent
+    (making_node pid p.special p.at.path p.at.again (given who.owner mode)))
+    (λ p stat known r. ShowsMade s known who.node name stat r
+    × (known ≡ with_made s who.node name stat)) result
 
 -- nothing is linked or moved from one view to another
 abbrev pub in_one_view : ℕ → ℕ → Result (Unit {0}) Failure
 in_one_view from to = if from == to then Ok tt else Err (error errno.EXDEV)
 
--- the file of a node, by its path, and its further name
+-- the object of a node, which is no directory, by its path, and its further name
 abbrev pub linking_in : Seen → ℕ → ℕ → List ℕ → Result Linking Failure
 linking_in s parent node name = and_then (located_new s parent name) (λ to.
     and_then (located_own s node) (λ from.
@@ -202,8 +181,9 @@ abbrev pub AnswersLink : Seen → Seen → ℕ → ℕ → ℕ → List ℕ → 
 AnswersLink s later pid parent node name old new result =
     Answers s later old new (linking_in s parent node name)
     (λ l. inside pid l.place (linking pid l.from.first l.inode l.to.first))
-    (λ l stat known r. Says (ShowsEntry s.nodes (named parent name) stat) r
-    × (known ≡ with_look_up s parent name stat)) result
+    (λ l stat known r. Says (ShowsEntry s.nodes (named parent name) stat
+    (times_at s known.times parent stat.num)) r
+    × (known ≡ with_link s parent name l.inode stat)) result
 
 -- ---- taking names away, and moving them
 
@@ -225,10 +205,6 @@ AnswersRmDir s later pid node name old new result =
     (λ p. inside pid p.place (doing pid (call.Rmdir p.path)))
     (λ p done known r. Says ShowsNothing r × (known ≡ without_name s node name)) result
 
--- a move may replace nothing, by its flag 1, and there is no other flag
-abbrev pub absent_in : ℕ → Result Bool Failure
-absent_in flags = if nat_lt 1 flags then Err (error errno.EINVAL) else Ok (flags == 1)
-
 abbrev pub moved : Seen → ℕ → List ℕ → ℕ → List ℕ → ℕ → Result Moving Failure
 moved s node name new_node new_name flags = and_then (absent_in flags) (λ absent.
     and_then (located_new s node name) (λ from.
@@ -240,10 +216,6 @@ moved s node name new_node new_name flags = and_then (absent_in flags) (λ absen
 abbrev pub moving_by : ℕ → Moving → Course (Result (Unit {0}) Fault)
 moving_by pid m =
     inside pid m.from.place (inside pid m.to.place (moving pid m.from.path m.to.path m.absent))
-
-abbrev pub with_move : Seen → ℕ → List ℕ → ℕ → List ℕ → Seen
-with_move s node name new_node new_name =
-    record s { nodes = renamed s.nodes (named node name) (named new_node new_name) }
 
 abbrev pub AnswersRename : Seen → Seen → ℕ → ℕ → List ℕ → ℕ → List ℕ → ℕ → Shown → Shown
     → Result Reply Failure → Type 0
@@ -268,40 +240,36 @@ opening s pid node = and_then (stepper_at s node) (λ st.
     if is_node s node then opening_by s pid node (handle_at s st.view node)
     else Err (error errno.EISDIR))
 
-abbrev pub opened_by : ℕ → Bool → Opening → Course (Result ℕ Fault)
-opened_by pid cut (Again inode handle fd) = cutting pid fd cut >>= on_ok (λ done. Give (Ok fd))
-opened_by pid cut (First view path inode) = opening_cut pid path inode cut
+abbrev pub opened_by : ℕ → Cut → Opening → Course (Result ℕ Fault)
+opened_by pid how (Again inode handle fd) = cutting pid fd how >>= on_ok (λ done. Give (Ok fd))
+opened_by pid how (First view path inode) = opening_cut pid path inode how
 
 -- what is known then, and under which number the file is open
-abbrev pub with_opening : Seen → ℕ → Opening → ℕ → Seen
-with_opening s pid (Again inode handle fd) given = opened_again s handle
-with_opening s pid (First view path inode) given = opened_first s view inode pid given
+abbrev pub with_opening : Seen → ℕ → ℕ → Cut → Opening → ℕ → Seen
+with_opening s pid node how (Again inode handle fd) given =
+    opened_again (with_events node (of_cutting how inode) s) handle
+with_opening s pid node how (First view path inode) given =
+    opened_first (with_events node (of_cutting how inode) s) view inode pid given
 
 abbrev pub handle_by : Seen → Opening → ℕ
 handle_by s (Again inode handle fd) = handle
 handle_by s (First view path inode) = s.next_file
 
--- the flags of an open that cuts the file, and of one that has to make it
-abbrev pub cuts : ℕ → Bool
-cuts flags = has_flag flags 512
-
-abbrev pub is_exclusive : ℕ → Bool
-is_exclusive flags = has_flag flags 128
-
-abbrev pub OpensAs : Seen → Seen → ℕ → Bool → Result Opening Failure → Shown → Shown
+abbrev pub OpensAs : Seen → Seen → ℕ → ℕ → Cut → Result Opening Failure → Shown → Shown
     → Result Reply Failure → Type 0
-OpensAs s later pid cut plan old new result =
-    Answers s later old new plan (opened_by pid cut)
-    (λ o fd known r. Says (ShowsHandle (handle_by s o)) r × (known ≡ with_opening s pid o fd)) result
+OpensAs s later pid node how plan old new result =
+    Answers s later old new plan (opened_by pid how)
+    (λ o fd known r. Says (ShowsHandle (handle_by s o)) r
+    × (known ≡ with_opening s pid node how o fd)) result
 
-abbrev pub AnswersOpen : Seen → Seen → ℕ → ℕ → ℕ → Shown → Shown → Result Reply Failure → Type 0
-AnswersOpen s later pid node flags old new result =
-    OpensAs s later pid (cuts flags) (opening s pid node) old new result
+abbrev pub AnswersOpen : Seen → Seen → ℕ → ℕ → ℕ → ℕ → Shown → Shown → Result Reply Failure → Type 0
+AnswersOpen s later pid node flags how old new result =
+    OpensAs s later pid node (cut_by flags how) (opening s pid node) old new result
 
 -- a file is made, or the one of that name is opened, unless it is open already
-abbrev pub making_open : Seen → ℕ → ℕ → LocatedName → Course (Result Made Fault)
-making_open s pid flags p =
-    inside pid p.place (creating_cut pid p.path p.path (is_exclusive flags) (cuts flags))
+abbrev pub making_open : Seen → ℕ → Creation → NewName → Course (Result Made Fault)
+making_open s pid c p =
+    making_inside pid p.parent (creating_in pid p.path p.again.told c.exclusive c.cut c.given)
     >>= on_ok (λ made. closing_spare pid (is_some (handle_of s p.view made.stat.num)) made)
 
 -- A file that was made is open under the number that it had, where it was open already.
@@ -323,26 +291,23 @@ abbrev pub born_if : Bool → Table → ℕ → Table
 born_if true t inode = made t inode
 born_if false t inode = t
 
-abbrev pub with_created : Seen → ℕ → ℕ → ℕ → List ℕ → Made → Seen
-with_created s view pid node name made = record (with_open s view pid made) {
+abbrev pub with_created : Seen → ℕ → ℕ → ℕ → List ℕ → Cut → Made → Seen
+with_created s view pid node name how made = record (with_open s view pid made) {
   nodes = looked_up (born_if made.is_new s.nodes made.stat.num) (named node name)
       made.stat.num made.stat.kind;
+  times = (with_creation made.is_new s node how made.stat.num).times;
 }
 
-abbrev pub AnswersCreate : Seen → Seen → ℕ → ℕ → List ℕ → ℕ → Shown → Shown
+abbrev pub AnswersCreate : Seen → Seen → ℕ → Caller → List ℕ → Creation → Shown → Shown
     → Result Reply Failure → Type 0
-AnswersCreate s later pid node name flags old new result =
-    Answers s later old new (located_new s node name) (making_open s pid flags)
+AnswersCreate s later pid who name c old new result =
+    Answers s later old new (located_made s who.node name) (making_open s pid c)
     (λ p made known r. Says (ShowsCreated (born_if made.is_new s.nodes made.stat.num)
-    (named node name) made.stat (handle_made s p.view made)) r
-    × (known ≡ with_created s p.view pid node name made)) result
+    (named who.node name) made.stat (times_at s known.times who.node made.stat.num)
+    (handle_made s p.view made)) r
+    × (known ≡ with_created s p.view pid who.node name c.cut made)) result
 
 -- ---- open files
-
--- an offset as the kernel takes it
-abbrev pub offset_in : ℕ → Result ℤ Failure
-offset_in offset =
-    if nat_lt offset (2 ^ 63) then Ok (pos offset) else Err (error errno.EINVAL)
 
 abbrev pub reads : Seen → ℕ → ℕ → ℕ → ℕ → Result Reading Failure
 reads s pid handle offset size = and_then (file_by s pid handle) (λ file.
@@ -355,26 +320,26 @@ AnswersRead s later pid handle offset size old new result =
     (λ p. reading pid p.fd p.count p.offset)
     (λ p bytes known r. Says (ShowsBytes bytes) r × (known ≡ s)) result
 
--- A write whose flags say O_APPEND goes to the end, whatever offset came with it.
-abbrev pub offset_by : ℕ → ℕ → Result (Option ℤ) Failure
-offset_by flags offset =
-    if has_flag flags 1024 then Ok None else and_then (offset_in offset) (λ from. Ok (Some from))
-
 abbrev pub writes : Seen → ℕ → ℕ → ℕ → ℕ → Result Writing Failure
 writes s pid handle offset flags = and_then (file_by s pid handle) (λ file.
     and_then (offset_by flags offset) (λ from.
     Ok (record { inode = file.inode; fd = file.fd; offset = from })))
 
-abbrev pub written_by : ℕ → List ℕ → ℕ → Option ℤ → Course (Result ℕ Fault)
-written_by pid bytes fd (Some offset) = writing pid fd bytes offset
-written_by pid bytes fd None = appending pid fd bytes
+abbrev pub put_by : ℕ → List ℕ → ℕ → Option ℤ → Course (Result ℕ Fault)
+put_by pid bytes fd (Some offset) = writing pid fd bytes offset
+put_by pid bytes fd None = appending pid fd bytes
 
-abbrev pub AnswersWrite : Seen → Seen → ℕ → ℕ → ℕ → ℕ → List ℕ → Shown → Shown
+abbrev pub written_by : ℕ → List ℕ → Bool → ℕ → Option ℤ → Course (Result ℕ Fault)
+written_by pid bytes dropping fd offset =
+    dropping_if pid fd dropping >>= on_ok (λ dropped. put_by pid bytes fd offset)
+
+abbrev pub AnswersWrite : Seen → Seen → ℕ → ℕ → ℕ → ℕ → ℕ → ℕ → List ℕ → Shown → Shown
     → Result Reply Failure → Type 0
-AnswersWrite s later pid handle offset flags bytes old new result =
+AnswersWrite s later pid node handle offset how flags bytes old new result =
     Answers s later old new (writes s pid handle offset flags)
-    (λ w. written_by pid bytes w.fd w.offset)
-    (λ w count known r. Says (ShowsCount count) r × (known ≡ s)) result
+    (λ w. written_by pid bytes (drops how) w.fd w.offset)
+    (λ w count known r. Says (ShowsCount count) r
+    × (known ≡ with_events node (of_writing w.inode) s)) result
 
 abbrev pub AnswersSeek : Seen → Seen → ℕ → ℕ → ℕ → Whence → Shown → Shown → Result Reply Failure
     → Type 0
@@ -463,45 +428,50 @@ Tells told s later old new result = (result ≡ told) × (new ≡ old) × (later
 -- Requests on open files were answered; others are not served.
 abbrev pub IsOfFiles : Seen → Seen → ℕ → ℕ → Operation → Shown → Shown → Result Reply Failure
     → Type 0
-IsOfFiles s later pid node (asked.Open flags) old new r =
-    AnswersOpen s later pid node flags old new r
+IsOfFiles s later pid node (asked.Open flags how) old new r =
+    AnswersOpen s later pid node flags how old new r
 IsOfFiles s later pid node (asked.Read handle offset size flags) old new r =
     AnswersRead s later pid handle offset size old new r
 IsOfFiles s later pid node (asked.Write handle offset how flags bytes) old new r =
-    AnswersWrite s later pid handle offset flags bytes old new r
+    AnswersWrite s later pid node handle offset how flags bytes old new r
 IsOfFiles s later pid node (asked.Lseek handle offset whence) old new r =
     AnswersSeek s later pid handle offset whence old new r
 IsOfFiles s later pid node _ old new r = Tells (Err (error errno.ENOSYS)) s later old new r
 
 -- or requests that change names
-abbrev pub IsOfNames : Seen → Seen → ℕ → ℕ → Operation → Shown → Shown → Result Reply Failure
+abbrev pub IsOfNames : Seen → Seen → ℕ → Caller → Operation → Shown → Shown → Result Reply Failure
     → Type 0
-IsOfNames s later pid node (asked.MkNod name mode) old new r =
-    AnswersMkNod s later pid node name mode old new r
-IsOfNames s later pid node (asked.MkDir name mode) old new r =
-    AnswersMkDir s later pid node name old new r
-IsOfNames s later pid node (asked.Unlink name) old new r =
-    AnswersUnlink s later pid node name old new r
-IsOfNames s later pid node (asked.RmDir name) old new r =
-    AnswersRmDir s later pid node name old new r
-IsOfNames s later pid node (asked.Rename name new_node new_name flags) old new r =
-    AnswersRename s later pid node name new_node new_name flags old new r
-IsOfNames s later pid node (asked.Link of name) old new r =
-    AnswersLink s later pid node of name old new r
-IsOfNames s later pid node (asked.Create name flags mode) old new r =
-    AnswersCreate s later pid node name flags old new r
-IsOfNames s later pid node operation old new r = IsOfFiles s later pid node operation old new r
+IsOfNames s later pid who (asked.SymLink name target) old new r =
+    AnswersSymLink s later pid who name target old new r
+IsOfNames s later pid who (asked.MkNod name mode) old new r =
+    AnswersMkNod s later pid who name mode old new r
+IsOfNames s later pid who (asked.MkDir name mode) old new r =
+    AnswersMkDir s later pid who name mode old new r
+IsOfNames s later pid who (asked.Unlink name) old new r =
+    AnswersUnlink s later pid who.node name old new r
+IsOfNames s later pid who (asked.RmDir name) old new r =
+    AnswersRmDir s later pid who.node name old new r
+IsOfNames s later pid who (asked.Rename name new_node new_name flags) old new r =
+    AnswersRename s later pid who.node name new_node new_name flags old new r
+IsOfNames s later pid who (asked.Link of name) old new r =
+    AnswersLink s later pid who.node of name old new r
+IsOfNames s later pid who (asked.Create name flags mode how) old new r =
+    AnswersCreate s later pid who name (creation who.owner flags mode how) old new r
+IsOfNames s later pid who operation old new r = IsOfFiles s later pid who.node operation old new r
 
--- A request about a node was answered, by the steps of a process.
-abbrev pub IsAnswered : Seen → Seen → ℕ → ℕ → Operation → Shown → Shown → Result Reply Failure
+-- A request about a node, and of an owner, was answered, by the steps of a process.
+abbrev pub IsAnswered : Seen → Seen → ℕ → Caller → Operation → Shown → Shown → Result Reply Failure
     → Type 0
-IsAnswered s later pid node (asked.Lookup name) old new r =
-    AnswersLookUp s later pid node name old new r
-IsAnswered s later pid node (asked.GetAttr h) old new r = AnswersGetAttr s later pid node old new r
-IsAnswered s later pid node (asked.SetAttr c) old new r = AnswersSetAttr s later pid node c old new r
-IsAnswered s later pid node asked.OpenDir old new r = AnswersOpenDir s later pid node old new r
-IsAnswered s later pid node (asked.ReadDir handle offset size) old new r =
-    AnswersReadDir s later pid node handle offset size old new r
-IsAnswered s later pid node (asked.Access mask) old new r =
+IsAnswered s later pid who (asked.Lookup name) old new r =
+    AnswersLookUp s later pid who.node name old new r
+IsAnswered s later pid who (asked.GetAttr h) old new r =
+    AnswersGetAttr s later pid who.node old new r
+IsAnswered s later pid who (asked.SetAttr c) old new r =
+    AnswersSetAttr s later pid who.node c old new r
+IsAnswered s later pid who asked.ReadLink old new r = AnswersReadLink s later pid who.node old new r
+IsAnswered s later pid who asked.OpenDir old new r = AnswersOpenDir s later pid who.node old new r
+IsAnswered s later pid who (asked.ReadDir handle offset size) old new r =
+    AnswersReadDir s later pid who.node handle offset size old new r
+IsAnswered s later pid who (asked.Access mask) old new r =
     Tells (Ok reply.Empty) s later old new r
-IsAnswered s later pid node operation old new r = IsOfNames s later pid node operation old new r
+IsAnswered s later pid who operation old new r = IsOfNames s later pid who operation old new r

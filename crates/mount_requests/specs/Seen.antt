@@ -1,4 +1,5 @@
--- What requests go by, beside the kernel: nodes, open files and directories, transactions, processes.
+-- What requests go by, beside the kernel: nodes, open files and directories, transactions, processes,
+-- and times.
 use Rattle.std.specs.Prelude.{◌≡◌, ℕ}
 use Rattle.std.specs.Cmp.Lexicographic.{slice_cmp}
 use Rattle.std.specs.Ordering.{nat_cmp}
@@ -9,11 +10,16 @@ use Rattle.mount_tables.specs.Folders.{Opened}
 use Rattle.mount_tables.specs.declared.open_files.OpenFile.{OpenFile}
 use Rattle.mount_tables.specs.declared.processes.Role.{Role}
 use Rattle.mount_tables.specs.declared.views.View.{View}
+use Rattle.fuse.specs.declared.request.Time.{Time}
+use Rattle.view_times.specs.Kept.{known}
+use Rattle.view_times.specs.Known.{Known, nothing_known}
+use Rattle.view_times.specs.Times.{first_time}
 use Rattle.mount_requests.specs.declared.tables.Tables.{Tables}
 
 -- The node of each number; the open file of each number, and the number under which an object is open
 -- in a view; the open directory of each number; the view of each number, and the number of each name;
--- what each process is for. A number that is next was given to none yet.
+-- what each process is for; the times of each object, as each view sees them; and the time at which the
+-- request is served. A number that is next was given to none yet.
 pub record Seen : Type 0 where
   pub nodes : Table
   pub files : map.FinMap nat_cmp OpenFile
@@ -25,8 +31,10 @@ pub record Seen : Type 0 where
   pub names : map.FinMap (slice_cmp nat_cmp) ℕ
   pub next_view : ℕ
   pub roles : map.FinMap nat_cmp Role
+  pub times : Known
+  pub time : Time
 
--- what is seen of the tables. Room, and what stands of modes, owners and times, are no part of it.
+-- what is seen of the tables. Room is no part of it.
 abbrev pub seen : Tables → Seen
 seen t = record {
   nodes = t.nodes.table;
@@ -39,10 +47,12 @@ seen t = record {
   names = t.views.numbers;
   next_view = t.views.next;
   roles = t.processes.roles;
+  times = known t.times;
+  time = t.time;
 }
 
--- Nothing is known yet: there is no node but roots, no file or directory is open, and no transaction
--- goes on. Numbers are given from the first ones on.
+-- Nothing is known yet: there is no node but roots, no file or directory is open, no transaction goes
+-- on, and nothing is known of times. Numbers are given from the first ones on.
 pub record IsUnknown (s : Seen) : Type 0 where
   pub nodes : s.nodes.nodes ≡ map.empty
   pub numbers : s.nodes.numbers ≡ map.empty
@@ -57,3 +67,5 @@ pub record IsUnknown (s : Seen) : Type 0 where
   pub names : s.names ≡ map.empty
   pub next_view : s.next_view ≡ 1
   pub roles : s.roles ≡ map.empty
+  pub times : s.times ≡ nothing_known
+  pub time : s.time ≡ first_time

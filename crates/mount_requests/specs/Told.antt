@@ -11,28 +11,30 @@ use Rattle.fuse.specs.declared.request.Whence.TheVariants as whence
 use Rattle.nodes.specs.Tables.{Table, number_for}
 use Rattle.nodes.specs.declared.directory_entry.DirectoryEntry.{DirectoryEntry}
 use Rattle.mount_tables.specs.Attributes.{IsLike}
+use Rattle.view_times.specs.declared.times.Times.{Times}
 use Rattle.mount_requests.specs.Failures.{error}
 use Rattle.mount_requests.specs.declared.failure.Failure.{Failure}
 
 abbrev pub named : ℕ → List ℕ → DirectoryEntry
 named parent name = record { parent = parent; name = name }
 
--- what a name gave: its node, and the object's attributes
-pub record IsEntry (t : Table) (p : DirectoryEntry) (stat : Stat) (entry : Entry) : Type 0 where
+-- what a name gave: its node, and the object's attributes, of which its times are these
+pub record IsEntry (t : Table) (p : DirectoryEntry) (stat : Stat) (times : Times) (entry : Entry)
+    : Type 0 where
   pub node : entry.node ≡ number_for t p stat.num
-  pub like : IsLike stat entry.attr
+  pub like : IsLike stat times entry.attr
 
 abbrev pub ShowsNothing : Reply → Type 0
 ShowsNothing reply.Empty = Unit {0}
 ShowsNothing _ = ⊥
 
-abbrev pub ShowsEntry : Table → DirectoryEntry → Stat → Reply → Type 0
-ShowsEntry t p stat (reply.Entry entry) = IsEntry t p stat entry
-ShowsEntry t p stat _ = ⊥
+abbrev pub ShowsEntry : Table → DirectoryEntry → Stat → Times → Reply → Type 0
+ShowsEntry t p stat times (reply.Entry entry) = IsEntry t p stat times entry
+ShowsEntry t p stat times _ = ⊥
 
-abbrev pub ShowsAttributes : Stat → Reply → Type 0
-ShowsAttributes stat (reply.Attr attr) = IsLike stat attr
-ShowsAttributes stat _ = ⊥
+abbrev pub ShowsAttributes : Stat → Times → Reply → Type 0
+ShowsAttributes stat times (reply.Attr attr) = IsLike stat times attr
+ShowsAttributes stat times _ = ⊥
 
 abbrev pub ShowsBytes : List ℕ → Reply → Type 0
 ShowsBytes bytes (reply.Data read) = read ≡ bytes
@@ -47,10 +49,10 @@ abbrev pub ShowsHandle : ℕ → Reply → Type 0
 ShowsHandle handle (reply.Opened opened) = opened.handle ≡ handle
 ShowsHandle handle _ = ⊥
 
-abbrev pub ShowsCreated : Table → DirectoryEntry → Stat → ℕ → Reply → Type 0
-ShowsCreated t p stat handle (reply.Created entry opened) =
-    IsEntry t p stat entry × (opened.handle ≡ handle)
-ShowsCreated t p stat handle _ = ⊥
+abbrev pub ShowsCreated : Table → DirectoryEntry → Stat → Times → ℕ → Reply → Type 0
+ShowsCreated t p stat times handle (reply.Created entry opened) =
+    IsEntry t p stat times entry × (opened.handle ≡ handle)
+ShowsCreated t p stat times handle _ = ⊥
 
 -- The offset that is looked for in a file of this length, which has no holes.
 abbrev pub within : ℕ → ℕ → ℕ → Result ℕ Failure

@@ -1,25 +1,25 @@
 // Requests that set attributes.
-ghost use Rattle.std.specs.Prelude.{◌≡◌, IfOk, IfSome};
+ghost use Rattle.std.specs.Prelude.{◌≡◌};
 ghost use Rattle.course.specs.Course.{Ran};
 ghost use Rattle.course.specs.Hands.{bound};
 ghost use Rattle.mount_requests.specs.Answers.{IsPlanned};
-ghost use Rattle.mount_requests.specs.Requests.{AnswersSetAttr, length_in, setting, setting_by};
+ghost use Rattle.mount_requests.specs.Asked.{length_in, owner_by, permissions_by, update_of};
+ghost use Rattle.mount_requests.specs.Requests.{AnswersSetAttr, setting, setting_by};
 ghost use Rattle.mount_requests.specs.Seen.{seen};
 
 use crate::failure::Failure;
 use crate::tables::Tables;
-use course::{Fault, Hand, Object, Twice, find, resize};
+use course::{Fault, Hand, Object, Paths, Update, apply_update, find, permissions_in};
 use fuse::{Changes, Errno, Reply};
-use ids::{Pid, Stat};
+use ids::{NewOwner, Permissions, Pid, Stat};
 use machine::Machine;
-use std::alloc::AllocError;
 
-// An object, the length that it gets, and the path by which it gets that where it is not open.
+// An object, what is set of it, and the path by which that is set where it is not open.
 #[derive(Drop)]
 pub(crate) struct Setting {
     object: Object,
-    length: Option<u32>,
-    path: Option<Twice>,
+    update: Option<Update>,
+    paths: Option<Paths>,
 }
 
 // A length that is set, which files may have.
@@ -35,56 +35,80 @@ fn length_in(size: Option<u64>) -> Result<Option<u32>, Failure>
     }
 }
 
-// Sets the length, where one is set, and tells what the object is like then.
+// The owner that is set, where a user or a group is named. Where set-user-ID and set-group-ID are to go
+// with a length alone nobody is named: then they go, and the owner stays.
+fn owner_by(changes: &Changes) -> Option<NewOwner>
+    ensures { result ≡ owner_by changes.now }
+{
+    if changes.uid.is_some() || changes.gid.is_some() || changes.drops_set_ids {
+        Some(NewOwner {
+            user: changes.uid,
+            group: changes.gid,
+        })
+    } else {
+        None
+    }
+}
+
+// The permissions that are set, if any.
+fn permissions_by(mode: Option<u32>) -> Option<Permissions>
+    ensures { result ≡ permissions_by mode }
+{
+    match mode {
+        Some(mode) => Some(permissions_in(mode)),
+        None => None,
+    }
+}
+
+// What is set, if anything is.
+fn update_of(
+    length: Option<u32>,
+    owner: Option<NewOwner>,
+    permissions: Option<Permissions>,
+) -> Option<Update>
+    ensures { result ≡ update_of length owner permissions }
+{
+    if length.is_some() || owner.is_some() || permissions.is_some() {
+        Some(Update {
+            length,
+            owner,
+            permissions,
+        })
+    } else {
+        None
+    }
+}
+
+// Sets what is set, and tells what the object is like then.
 fn set<K: Machine>(hand: &mut Hand<K>, setting: Setting) -> Result<Stat, Fault>
-    requires { IfSome setting.path (λ p. p.second ≡ p.first) }
     ensures bound { bound hand.new ≡ bound hand.old }
     ensures ran { Ran hand.old.shown
-        (setting_by hand.old.pid setting setting.length) result hand.new.shown }
+        (setting_by hand.old.pid setting setting.update) result hand.new.shown }
 {
     let Setting {
         object,
-        length,
-        path,
+        update: wanted,
+        paths,
     } = setting;
-    match length {
-        Some(length) => resize(hand, object, path, length),
+    match wanted {
+        Some(wanted) => apply_update(hand, object, paths, wanted),
         None => find(hand, object),
     }
 }
 
 impl Tables {
     // What is set of a node's object.
-    fn plan_setting(&self, pid: Pid, node: u64, size: Option<u64>) -> Result<Setting, Failure>
-        ensures plan { IsPlanned (setting (seen self.now) pid node size) result }
-        ensures same { IfOk result (λ s. IfSome s.path (λ p. p.second ≡ p.first)) }
+    fn plan_setting(&self, pid: Pid, node: u64, changes: &Changes) -> Result<Setting, Failure>
+        ensures { IsPlanned (setting (seen self.now) pid node changes.now) result }
     {
-        let length = length_in(size)?;
+        let length = length_in(changes.size)?;
         let object = self.find_object(pid, node)?;
-        let path = self.own_paths(node)?;
+        let paths = self.paths_to(node)?;
         Ok(Setting {
             object,
-            length,
-            path,
+            update: update_of(length, owner_by(changes), permissions_by(changes.mode)),
+            paths,
         })
-    }
-
-    // Makes room for what is set, and hears the time that comes with it.
-    fn reserve_changes(&mut self, changes: &Changes) -> Result<(), AllocError>
-        ensures { seen self.new ≡ seen self.old }
-    {
-        self.attributes.hear_changes(changes);
-        self.attributes.reserve()
-    }
-
-    // Keeps what was set of the object of a node. Of one that is gone nothing is kept under its
-    // number, since that may be another's.
-    fn keep_changes(&mut self, node: u64, stat: &Stat, changes: &Changes)
-        ensures { seen self.new ≡ seen self.old }
-    {
-        if self.nodes.is_current(node) {
-            self.attributes.change(stat, changes);
-        }
     }
 
     // Sets attributes of a node.
@@ -98,10 +122,10 @@ impl Tables {
         ensures answers { AnswersSetAttr (seen self.old) (seen self.new) hand.old.pid node changes.now
             hand.old.shown hand.new.shown result }
     {
-        let setting = self.plan_setting(hand.pid(), node, changes.size)?;
-        self.reserve_changes(changes)?;
+        let setting = self.plan_setting(hand.pid(), node, changes)?;
+        self.reserve_events(node)?;
         let stat = set(hand, setting)?;
-        self.keep_changes(node, &stat, changes);
+        self.note_set(node, stat.num, changes);
         Ok(Reply::Attr(self.attr_at(node, &stat)))
     }
 }

@@ -3,17 +3,18 @@ ghost use Rattle.std.specs.Prelude.{◌≡◌};
 ghost use Rattle.course.specs.Course.{Ran};
 ghost use Rattle.course.specs.Hands.{bound};
 ghost use Rattle.mount_requests.specs.Answers.{IsPlanned};
-ghost use Rattle.mount_requests.specs.Requests.{AnswersRead, AnswersSeek, AnswersWrite, offset_by};
-ghost use Rattle.mount_requests.specs.Requests.{offset_in, reads, writes, written_by};
+ghost use Rattle.mount_requests.specs.Asked.{drops, offset_by, offset_in};
+ghost use Rattle.mount_requests.specs.Requests.{AnswersRead, AnswersSeek, AnswersWrite, put_by, reads};
+ghost use Rattle.mount_requests.specs.Requests.{writes, written_by};
 ghost use Rattle.mount_requests.specs.Seen.{seen};
 ghost use Rattle.mount_requests.specs.Told.{ShowsSought, sought};
 
 use crate::failure::Failure;
 use crate::tables::Tables;
-use course::{Fault, Hand, append, stat_file, write};
-use fuse::bits::OPEN_APPEND;
+use course::{Fault, Hand, append, drop_if, stat_file, write};
+use fuse::bits::{OPEN_APPEND, WRITE_DROPS_SET_IDS};
 use fuse::{Errno, Reply, Whence};
-use ids::{Bytes, Fd, Kind, MOST_MOVED, Num, Pid};
+use ids::{Bytes, Fd, MOST_MOVED, Num, Pid};
 use machine::Machine;
 use mount_tables::OpenFile;
 
@@ -87,16 +88,38 @@ fn sought_in(offset: u64, whence: Whence, size: u64) -> Result<Reply, Failure>
     Ok(Reply::Lseek { offset })
 }
 
+// Whether set-user-ID and set-group-ID go with a write.
+fn drops(write_flags: u32) -> bool
+    ensures { result ≡ drops write_flags }
+{
+    write_flags & WRITE_DROPS_SET_IDS != 0
+}
+
 // Puts bytes into a file.
 fn put<K: Machine>(hand: &mut Hand<K>, writing: Writing, bytes: Bytes) -> Result<u32, Fault>
     ensures bound { bound hand.new ≡ bound hand.old }
     ensures ran { Ran hand.old.shown
-        (written_by hand.old.pid bytes writing.fd writing.offset) result hand.new.shown }
+        (put_by hand.old.pid bytes writing.fd writing.offset) result hand.new.shown }
 {
     match writing.offset {
         Some(offset) => write(hand, writing.fd, bytes, offset),
         None => append(hand, writing.fd, bytes),
     }
+}
+
+// The same, where set-user-ID and set-group-ID go first, if that is wanted.
+fn put_dropping<K: Machine>(
+    hand: &mut Hand<K>,
+    writing: Writing,
+    dropping: bool,
+    bytes: Bytes,
+) -> Result<u32, Fault>
+    ensures bound { bound hand.new ≡ bound hand.old }
+    ensures ran { Ran hand.old.shown
+        (written_by hand.old.pid bytes dropping writing.fd writing.offset) result hand.new.shown }
+{
+    drop_if(hand, writing.fd, dropping)?;
+    put(hand, writing, bytes)
 }
 
 impl Tables {
@@ -145,23 +168,26 @@ impl Tables {
         Ok(Writing { inode, fd, offset })
     }
 
-    // Puts bytes into an open file.
+    // Puts bytes into an open file, by a request about this node.
     pub(crate) fn write<K: Machine>(
         &mut self,
         hand: &mut Hand<K>,
+        node: u64,
         handle: u64,
         offset: u64,
+        write_flags: u32,
         open_flags: u32,
         bytes: Bytes,
     ) -> Result<Reply, Failure>
         ensures bound { bound hand.new ≡ bound hand.old }
-        ensures answers { AnswersWrite (seen self.old) (seen self.new) hand.old.pid handle offset
-            open_flags bytes hand.old.shown hand.new.shown result }
+        ensures answers { AnswersWrite (seen self.old) (seen self.new) hand.old.pid node handle
+            offset write_flags open_flags bytes hand.old.shown hand.new.shown result }
     {
         let writing = self.plan_write(hand.pid(), handle, offset, open_flags)?;
+        self.reserve_events(node)?;
         let inode = writing.inode;
-        let size = put(hand, writing, bytes)?;
-        self.attributes.modify(inode, Kind::File);
+        let size = put_dropping(hand, writing, drops(write_flags), bytes)?;
+        self.note_written(node, inode);
         Ok(Reply::Written { size })
     }
 

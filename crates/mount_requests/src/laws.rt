@@ -1,5 +1,6 @@
 // Laws of the definitions.
 ghost use Rattle.mount_requests.specs.Aborts.{RequestsEndAtAborts};
+ghost use Rattle.mount_requests.specs.Apart.{RequestsKeepTimesApart};
 ghost use Rattle.mount_requests.specs.Keeping.{RequestsKeepViews};
 ghost use Rattle.mount_requests.specs.WholeLists.{ListsAreWhole};
 
@@ -19,4 +20,10 @@ pub fn lists_are_whole()
 /// A request about a node of a tree leaves views, their names and what processes are for as they are.
 pub fn requests_keep_views()
     ensures { RequestsKeepViews }
+{}
+
+/// What a request about a node below a view does to times is seen in no other view, but that nothing is
+/// known of what had the number of an object that is made.
+pub fn requests_keep_times_apart()
+    ensures { RequestsKeepTimesApart }
 {}

@@ -18,9 +18,12 @@ mod reading;
 mod removing;
 mod requests;
 mod tables;
+mod times;
 
 pub use failure::Failure;
-pub use laws::{lists_are_whole, requests_end_at_aborts, requests_keep_views};
+pub use laws::{
+    lists_are_whole, requests_end_at_aborts, requests_keep_times_apart, requests_keep_views,
+};
 pub use lists::list_from;
 pub use requests::Caller;
 pub use tables::{Stepper, Tables, stepper_of};

@@ -1,23 +1,27 @@
 // Requests that open files.
-ghost use Rattle.std.specs.Prelude.{◌≡◌, ◌<◌, is_some, IfOk, Ok, OnOk};
+ghost use Rattle.std.specs.Prelude.{◌≡◌, ◌≤◌, ◌<◌, is_some, Ok, OnOk};
 ghost use Rattle.course.specs.Course.{Ran};
 ghost use Rattle.course.specs.Hands.{bound};
 ghost use Rattle.mount_requests.specs.Answers.{IsPlanned};
-ghost use Rattle.mount_requests.specs.Found.{handle_of, name_at};
-ghost use Rattle.mount_requests.specs.Requests.{AnswersCreate, AnswersOpen, OpensAs, born_if, cuts};
-ghost use Rattle.mount_requests.specs.Requests.{handle_made, is_exclusive, making_open, opened_again};
-ghost use Rattle.mount_requests.specs.Requests.{opened_first, opening, opening_by, with_open};
+ghost use Rattle.mount_requests.specs.Asked.{creation, cut_by, cuts, has_flag, is_exclusive};
+ghost use Rattle.mount_requests.specs.Found.{handle_of};
+ghost use Rattle.mount_requests.specs.Later.{opened_again, opened_first, with_creation};
+ghost use Rattle.mount_requests.specs.Requests.{AnswersCreate, AnswersOpen, OpensAs, handle_made};
+ghost use Rattle.mount_requests.specs.Requests.{making_open, opening, opening_by, with_open};
 ghost use Rattle.mount_requests.specs.Seen.{seen};
+ghost use Rattle.mount_requests.specs.Times.{view_at};
+ghost use Rattle.view_times.specs.Kept.{room_of};
 ghost use Rattle.mount_requests.specs.declared.opening.Opening.TheVariants.{Again, First};
 
 use crate::failure::Failure;
-use crate::planning::{Located, LocatedName, twice};
+use crate::making::given;
+use crate::planning::{Located, NewName};
 use crate::requests::Caller;
 use crate::tables::{Stepper, Tables};
-use course::{Fault, Hand, Made, Place, Twice, close_spare, create_cut, cut_if, open_cut};
-use fuse::bits::{OPEN_EXCLUSIVE, OPEN_TRUNCATE, OPENED_DIRECT};
+use course::{Cut, Fault, Hand, Made, close_spare, create_cut, cut_if, open_cut};
+use fuse::bits::{OPEN_DROPS_SET_IDS, OPEN_EXCLUSIVE, OPEN_TRUNCATE, OPENED_DIRECT};
 use fuse::{Errno, Opened, Reply};
-use ids::{Bytes, Fd, Kind, Num, Pid};
+use ids::{Bytes, Fd, Num, Owner, Pid, Rights};
 use machine::Machine;
 use mount_tables::PLAIN;
 use std::alloc::AllocError;
@@ -29,6 +33,14 @@ pub(crate) enum Opening {
     Again { inode: Num, handle: u64, fd: Fd },
     // By its path, where that gives this object.
     First { view: u64, path: Bytes, inode: Num },
+}
+
+// How a file is made, and what its maker gives to it.
+#[derive(Clone, Copy)]
+pub(crate) struct Creation {
+    exclusive: bool,
+    cut: Cut,
+    given: Rights,
 }
 
 // An open file as it is told: reads and writes go past the cache.
@@ -48,6 +60,28 @@ fn cuts(flags: u32) -> bool
     flags & OPEN_TRUNCATE != 0
 }
 
+// Whether set-user-ID and set-group-ID go then.
+fn drops(how: u32) -> bool
+    ensures { result ≡ has_flag how 1 }
+{
+    how & OPEN_DROPS_SET_IDS != 0
+}
+
+// Both.
+fn cut_by(flags: u32, how: u32) -> Cut
+    ensures { result ≡ cut_by flags how }
+{
+    if cuts(flags) {
+        if drops(how) {
+            Cut::Dropping
+        } else {
+            Cut::Plain
+        }
+    } else {
+        Cut::No
+    }
+}
+
 // Whether it has to be a new one.
 fn is_exclusive(flags: u32) -> bool
     ensures { result ≡ is_exclusive flags }
@@ -55,18 +89,18 @@ fn is_exclusive(flags: u32) -> bool
     flags & OPEN_EXCLUSIVE != 0
 }
 
-impl Tables {
-    // The bytes of an object went, where it was cut.
-    fn note_cut(&mut self, inode: Num, cut: bool)
-        ensures seen { seen self.new ≡ seen self.old }
-        ensures nodes { self.new.nodes ≡ self.old.nodes }
-        ensures files { self.new.files ≡ self.old.files }
-    {
-        if cut {
-            self.attributes.modify(inode, Kind::File);
-        }
+// How a file is made by these flags and this mode.
+pub(crate) fn creation_by(owner: Owner, flags: u32, mode: u32, how: u32) -> Creation
+    ensures { result ≡ creation owner flags mode how }
+{
+    Creation {
+        exclusive: is_exclusive(flags),
+        cut: cut_by(flags, how),
+        given: given(owner, mode),
     }
+}
 
+impl Tables {
     // Makes room for one open file more.
     fn reserve_file(&mut self) -> Result<(), AllocError>
         ensures seen { seen self.new ≡ seen self.old }
@@ -103,17 +137,19 @@ impl Tables {
     fn open_again<K: Machine>(
         &mut self,
         hand: &mut Hand<K>,
+        node: u64,
         inode: Num,
         handle: u64,
         fd: Fd,
-        cut: bool,
+        cut: Cut,
     ) -> Result<Reply, Failure>
         ensures bound { bound hand.new ≡ bound hand.old }
-        ensures answers { OpensAs (seen self.old) (seen self.new) hand.old.pid cut
+        ensures answers { OpensAs (seen self.old) (seen self.new) hand.old.pid node cut
             (Ok (Again inode handle fd)) hand.old.shown hand.new.shown result }
     {
+        self.reserve_events(node)?;
         cut_if(hand, fd, cut)?;
-        self.note_cut(inode, cut);
+        self.note_cut(node, inode, cut);
         self.count_open(handle);
         Ok(Reply::Opened(opened(handle)))
     }
@@ -122,36 +158,42 @@ impl Tables {
     fn open_first<K: Machine>(
         &mut self,
         hand: &mut Hand<K>,
+        node: u64,
         located: Located,
         inode: Num,
-        cut: bool,
+        cut: Cut,
     ) -> Result<Reply, Failure>
         ensures bound { bound hand.new ≡ bound hand.old }
-        ensures answers { OpensAs (seen self.old) (seen self.new) hand.old.pid cut
+        ensures answers { OpensAs (seen self.old) (seen self.new) hand.old.pid node cut
             (Ok (First located.view located.path inode)) hand.old.shown hand.new.shown result }
     {
         let Located { view, path } = located;
         self.reserve_file()?;
+        self.reserve_events(node)?;
         let fd = open_cut(hand, path, inode, cut)?;
-        self.note_cut(inode, cut);
+        self.note_cut(node, inode, cut);
         let handle = self.keep_open(view, inode, hand.pid(), fd);
         Ok(Reply::Opened(opened(handle)))
     }
 
+    // The file of a node is opened.
     fn open_as<K: Machine>(
         &mut self,
         hand: &mut Hand<K>,
+        node: u64,
         opening: Opening,
-        cut: bool,
+        cut: Cut,
     ) -> Result<Reply, Failure>
         ensures bound { bound hand.new ≡ bound hand.old }
-        ensures answers { OpensAs (seen self.old) (seen self.new) hand.old.pid cut (Ok opening)
+        ensures answers { OpensAs (seen self.old) (seen self.new) hand.old.pid node cut (Ok opening)
             hand.old.shown hand.new.shown result }
     {
         match opening {
-            Opening::Again { inode, handle, fd } => self.open_again(hand, inode, handle, fd, cut),
+            Opening::Again { inode, handle, fd } => {
+                self.open_again(hand, node, inode, handle, fd, cut)
+            }
             Opening::First { view, path, inode } => {
-                self.open_first(hand, Located { view, path }, inode, cut)
+                self.open_first(hand, node, Located { view, path }, inode, cut)
             }
         }
     }
@@ -194,13 +236,14 @@ impl Tables {
         hand: &mut Hand<K>,
         node: u64,
         flags: u32,
+        how: u32,
     ) -> Result<Reply, Failure>
         ensures bound { bound hand.new ≡ bound hand.old }
-        ensures answers { AnswersOpen (seen self.old) (seen self.new) hand.old.pid node flags
+        ensures answers { AnswersOpen (seen self.old) (seen self.new) hand.old.pid node flags how
             hand.old.shown hand.new.shown result }
     {
         let opening = self.plan_opening(hand.pid(), node)?;
-        self.open_as(hand, opening, cuts(flags))
+        self.open_as(hand, node, opening, cut_by(flags, how))
     }
 
     // Whether a file is open in a view.
@@ -215,20 +258,25 @@ impl Tables {
     fn make_open<K: Machine>(
         &self,
         hand: &mut Hand<K>,
-        view: u64,
-        path: Twice,
-        place: Option<Place>,
-        flags: u32,
+        wanted: NewName,
+        creation: Creation,
     ) -> Result<Made, Fault>
-        requires { path.second ≡ path.first }
         ensures bound { bound hand.new ≡ bound hand.old }
         ensures ran { Ran hand.old.shown
-            (making_open (seen self.now) hand.old.pid flags (name_at view path.first place))
-            result hand.new.shown }
+            (making_open (seen self.now) hand.old.pid creation wanted) result hand.new.shown }
     {
-        let exclusive = is_exclusive(flags);
-        let cut = cuts(flags);
-        let made = create_cut(hand, place, path.first, path.second, exclusive, cut)?;
+        let NewName {
+            view,
+            path,
+            again,
+            parent,
+        } = wanted;
+        let Creation {
+            exclusive,
+            cut,
+            given,
+        } = creation;
+        let made = create_cut(hand, parent, path, again.told, exclusive, cut, given)?;
         let is_open = self.is_open(view, &made);
         close_spare(hand, is_open, made)
     }
@@ -250,20 +298,18 @@ impl Tables {
     }
 
     // What is kept of a file that was made, or of one that was there and may be cut.
-    fn note_opened(&mut self, caller: Caller, made: &Made, mode: u32, cut: bool)
-        requires { 0 < self.old.nodes.birth_room }
-        ensures seen { seen self.new ≡ record (seen self.old) {
-          nodes = born_if made.now.is_new self.old.nodes.table made.now.stat.num;
-        } }
+    fn note_opened(&mut self, node: u64, made: &Made, cut: Cut)
+        requires birth { 0 < self.old.nodes.birth_room }
+        requires events { 2 ≤ room_of self.old.times (view_at (seen self.old) node) }
+        ensures seen { seen self.new
+            ≡ with_creation made.now.is_new (seen self.old) node cut made.now.stat.num }
         ensures room { self.new.nodes.room ≡ self.old.nodes.room }
         ensures files { self.new.files ≡ self.old.files }
     {
         if made.is_new {
-            self.attributes.create(made.stat.num, mode, caller.owner);
-            self.note_names(caller.node);
-            self.note_birth(made.stat.num);
+            self.note_new(node, made.stat.num);
         } else {
-            self.note_cut(made.stat.num, cut);
+            self.note_cut(node, made.stat.num, cut);
         }
     }
 
@@ -273,19 +319,20 @@ impl Tables {
         hand: &mut Hand<K>,
         caller: Caller,
         name: &Bytes,
-        flags: u32,
-        mode: u32,
+        creation: Creation,
     ) -> Result<Reply, Failure>
         ensures bound { bound hand.new ≡ bound hand.old }
-        ensures answers { AnswersCreate (seen self.old) (seen self.new) hand.old.pid caller.node
-            name.now flags hand.old.shown hand.new.shown result }
+        ensures answers { AnswersCreate (seen self.old) (seen self.new) hand.old.pid caller
+            name.now creation hand.old.shown hand.new.shown result }
     {
-        let LocatedName { view, path, place } = self.locate_new(caller.node, name)?;
-        let path = twice(path)?;
+        let wanted = self.locate_made(caller.node, name)?;
+        let view = wanted.view;
+        let cut = creation.cut;
         self.reserve_file()?;
+        self.reserve_events(caller.node)?;
         let spot = self.spot_for(caller.node, name)?;
-        let made = self.make_open(hand, view, path, place, flags)?;
-        self.note_opened(caller, &made, mode, cuts(flags));
+        let made = self.make_open(hand, wanted, creation)?;
+        self.note_opened(caller.node, &made, cut);
         let handle = self.keep_made(view, hand.pid(), &made);
         let entry = self.entry(spot, &made.stat);
         Ok(Reply::Created {

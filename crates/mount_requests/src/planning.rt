@@ -1,15 +1,17 @@
 // Where requests find what they name: paths for the kernel, and entries of directories.
 ghost use Rattle.std.specs.Prelude.{◌≡◌, ◌<◌, ◌++◌, ◌∷◌, option_map, IfOk, IfSome, OnOk};
 ghost use Rattle.mount_requests.specs.Answers.{IsPlanned};
-ghost use Rattle.mount_requests.specs.Found.{located, located_child, located_new, located_own};
-ghost use Rattle.mount_requests.specs.Found.{object_of, own_path, path_to, place_of};
-ghost use Rattle.mount_requests.specs.Requests.{in_one_view, own_paths, twice};
+ghost use Rattle.mount_requests.specs.Found.{again, each_use, home_in, located, located_child};
+ghost use Rattle.mount_requests.specs.Found.{located_made, located_new, located_own, object_of};
+ghost use Rattle.mount_requests.specs.Found.{own_path, own_paths, path_to, paths_to, place_of};
+ghost use Rattle.mount_requests.specs.Found.{twice};
+ghost use Rattle.mount_requests.specs.Requests.{in_one_view};
 ghost use Rattle.mount_requests.specs.Seen.{seen};
 ghost use Rattle.mount_requests.specs.Told.{named};
 
 use crate::failure::Failure;
 use crate::tables::{Stepper, Tables};
-use course::{Object, Place, Twice};
+use course::{Again, Object, Paths, Place, Twice};
 use fuse::Errno;
 use heap::Heap;
 use ids::{Bytes, Num, Pid};
@@ -30,6 +32,16 @@ pub(crate) struct LocatedName {
     pub(crate) view: u64,
     pub(crate) path: Bytes,
     pub(crate) place: Option<Place>,
+}
+
+// Where something is made: its view, its path, that path once for each further use, and its directory,
+// a root too.
+#[derive(Drop)]
+pub(crate) struct NewName {
+    pub(crate) view: u64,
+    pub(crate) path: Bytes,
+    pub(crate) again: Again,
+    pub(crate) parent: Place,
 }
 
 // The path of a root is a slash.
@@ -63,6 +75,53 @@ fn place_of(inode: Num, path: Bytes) -> Option<Place>
     } else {
         Some(Place { path, inode })
     }
+}
+
+// The directory in which something is made. A root is the first object of all.
+fn home_in(heap: Heap, place: Option<Place>) -> Result<Place, AllocError>
+    ensures { IfOk result (λ home. home ≡ home_in place) }
+{
+    match place {
+        Some(place) => Ok(place),
+        None => {
+            let path = Bytes::copy(heap, b"/")?;
+            Ok(Place {
+                path,
+                inode: Num(0),
+            })
+        }
+    }
+}
+
+// The path of what is made, once for each further use.
+fn again(path: &Bytes) -> Result<Again, AllocError>
+    ensures { IfOk result (λ paths. paths ≡ again path.now) }
+{
+    let owned = path.try_clone()?;
+    let permitted = path.try_clone()?;
+    let told = path.try_clone()?;
+    Ok(Again {
+        owned,
+        permitted,
+        told,
+    })
+}
+
+// The path of an object, once for each use.
+fn each_use(path: Bytes) -> Result<Paths, AllocError>
+    ensures { IfOk result (λ paths. paths ≡ each_use path) }
+{
+    let Again {
+        owned,
+        permitted,
+        told,
+    } = again(&path)?;
+    Ok(Paths {
+        looked: told,
+        sized: path,
+        owned,
+        permitted,
+    })
 }
 
 // A path, to be used twice.
@@ -132,6 +191,21 @@ impl Tables {
         self.locate_child(node, name)
     }
 
+    // Where something is to be made, as the kernel takes it.
+    pub(crate) fn locate_made(&self, node: u64, name: &Bytes) -> Result<NewName, Failure>
+        ensures { IsPlanned (located_made (seen self.now) node name.now) result }
+    {
+        let LocatedName { view, path, place } = self.locate_new(node, name)?;
+        let again = again(&path)?;
+        let parent = home_in(self.heap, place)?;
+        Ok(NewName {
+            view,
+            path,
+            again,
+            parent,
+        })
+    }
+
     // The path of a node as the kernel takes it, where it has one.
     fn own_path_to(&self, node: u64) -> Result<Option<Bytes>, AllocError>
         ensures { IfOk result (λ path. path ≡ option_map own_path (path_to (seen self.now) node)) }
@@ -153,6 +227,16 @@ impl Tables {
         }
     }
 
+    // The same, once for each use.
+    pub(crate) fn paths_to(&self, node: u64) -> Result<Option<Paths>, AllocError>
+        ensures { IfOk result (λ paths. paths ≡ paths_to (seen self.now) node) }
+    {
+        match self.own_path_to(node)? {
+            Some(path) => Ok(Some(each_use(path)?)),
+            None => Ok(None),
+        }
+    }
+
     // The object of a node, and how it is found.
     pub(crate) fn find_object(&self, pid: Pid, node: u64) -> Result<Object, Failure>
         ensures { IsPlanned (object_of (seen self.now) pid node) result }
@@ -170,18 +254,17 @@ impl Tables {
         })
     }
 
-    // A name of a directory, with room for its node, for an object that is made, and for what is kept
-    // of that.
+    // A name of a directory, with room for its node, and for an object that is made.
     pub(crate) fn spot_for(&mut self, node: u64, name: &Bytes) -> Result<Spot, AllocError>
         ensures entry { IfOk result (λ spot. spot ≡ named node name.now) }
         ensures room { OnOk result (0 < self.new.nodes.room) }
         ensures birth { OnOk result (0 < self.new.nodes.birth_room) }
         ensures seen { seen self.new ≡ seen self.old }
         ensures files { self.new.files ≡ self.old.files }
+        ensures times { self.new.times ≡ self.old.times }
     {
         let spot = Spot::new(self.heap, node, name.as_slice())?;
         self.nodes.reserve()?;
-        self.attributes.reserve()?;
         Ok(spot)
     }
 }

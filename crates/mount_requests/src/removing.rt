@@ -1,13 +1,15 @@
 // Requests that take names away, or move them.
-ghost use Rattle.std.specs.Prelude.{◌≡◌, ◌<◌, is_some, IfOk, IfSome};
-ghost use Rattle.nodes.specs.Tables.{detached};
-ghost use Rattle.nodes.specs.Tables.{moved as renamed};
+ghost use Rattle.std.specs.Prelude.{◌≡◌, ◌≤◌, ◌<◌, is_some, IfOk, IfSome};
 ghost use Rattle.course.specs.Hands.{bound};
 ghost use Rattle.mount_requests.specs.Answers.{IsPlanned};
-ghost use Rattle.mount_requests.specs.Requests.{AnswersRename, AnswersRmDir, AnswersUnlink, absent_in};
+ghost use Rattle.mount_requests.specs.Asked.{absent_in};
+ghost use Rattle.mount_requests.specs.Later.{with_move, without_name};
+ghost use Rattle.mount_requests.specs.Requests.{AnswersRename, AnswersRmDir, AnswersUnlink};
 ghost use Rattle.mount_requests.specs.Requests.{moved, removing};
 ghost use Rattle.mount_requests.specs.Seen.{seen};
+ghost use Rattle.mount_requests.specs.Times.{view_at};
 ghost use Rattle.mount_requests.specs.Told.{named};
+ghost use Rattle.view_times.specs.Kept.{room_of};
 
 use crate::failure::Failure;
 use crate::planning::{LocatedName, in_one_view};
@@ -62,26 +64,24 @@ impl Tables {
 
     // A name was taken away.
     fn note_removed(&mut self, removed: &DirectoryEntry)
-        ensures { seen self.new ≡ record (seen self.old) {
-          nodes = detached self.old.nodes.table removed.now;
-        } }
+        requires { 2 ≤ room_of self.old.times (view_at (seen self.old) removed.now.parent) }
+        ensures { seen self.new
+            ≡ without_name (seen self.old) removed.now.parent removed.now.name }
     {
+        self.note_lost(removed);
         self.nodes.detach(removed);
-        self.note_names(removed.parent);
     }
 
     // A name was moved.
     fn note_moved(&mut self, former: &DirectoryEntry, spot: Spot)
-        requires { 0 < self.old.nodes.room }
-        ensures { seen self.new ≡ record (seen self.old) {
-          nodes = renamed self.old.nodes.table former.now spot;
-        } }
+        requires room { 0 < self.old.nodes.room }
+        requires events { 3 ≤ room_of self.old.times (view_at (seen self.old) former.now.parent) }
+        ensures { seen self.new ≡ with_move (seen self.old) former.now.parent former.now.name
+            spot.parent spot.name }
     {
-        let new_parent = spot.entry().parent;
+        self.note_renamed(former, spot.entry());
         let noted: Result<_, _> = self.nodes.move_entry(former, spot);
         noted.unwrap();
-        self.note_names(former.parent);
-        self.note_names(new_parent);
     }
 
     // Takes a name of a file away.
@@ -101,6 +101,7 @@ impl Tables {
             place,
         } = self.locate_new(node, name)?;
         let removed = self.entry_of_name(node, name)?;
+        self.reserve_events(node)?;
         course::unlink(hand, place, path)?;
         self.note_removed(&removed);
         Ok(Reply::Empty)
@@ -133,6 +134,7 @@ impl Tables {
             place,
         } = self.plan_removal(node, name)?;
         let removed = self.entry_of_name(node, name)?;
+        self.reserve_events(node)?;
         course::remove_directory(hand, place, path)?;
         self.note_removed(&removed);
         Ok(Reply::Empty)
@@ -174,6 +176,7 @@ impl Tables {
         let Moving { from, to, absent } = self.plan_move(node, name, new_parent, new_name, flags)?;
         let again = copy_if(absent, &to.path)?;
         let former = self.entry_of_name(node, name)?;
+        self.reserve_events(node)?;
         let spot = self.spot_for(new_parent, new_name)?;
         course::move_name(hand, from.place, from.path, to.place, to.path, again)?;
         self.note_moved(&former, spot);

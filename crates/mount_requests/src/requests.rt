@@ -1,16 +1,17 @@
 // Requests about nodes of a tree.
 ghost use Rattle.std.specs.Prelude.{◌≡◌};
 ghost use Rattle.course.specs.Hands.{bound};
-ghost use Rattle.mount_requests.specs.Requests.{IsAnswered};
+ghost use Rattle.mount_requests.specs.Requests.{IsAnswered, IsOfFiles, IsOfNames};
 ghost use Rattle.mount_requests.specs.Seen.{seen};
 
 use crate::failure::Failure;
+use crate::opening::creation_by;
 use crate::reading::Wanted;
 use crate::tables::Tables;
 use course::Hand;
 use fuse::{Errno, Operation, Reply};
+use ids::Owner;
 use machine::Machine;
-use mount_tables::Owner;
 
 /// About which node a request is, and who asks.
 #[derive(Clone, Copy, Debug)]
@@ -31,7 +32,7 @@ impl Tables {
         operation: Operation,
     ) -> Result<Reply, Failure>
         ensures bound { bound hand.new ≡ bound hand.old }
-        ensures answers { IsAnswered (seen self.old) (seen self.new) hand.old.pid caller.node operation
+        ensures answers { IsAnswered (seen self.old) (seen self.new) hand.old.pid caller operation
             hand.old.shown hand.new.shown result }
     {
         let node = caller.node;
@@ -40,6 +41,7 @@ impl Tables {
             Operation::GetAttr { handle: _ } => self.get_attr(hand, node),
             Operation::SetAttr { changes } => self.set_attr(hand, node, &changes),
             Operation::Access { mask: _ } => Ok(Reply::Empty),
+            Operation::ReadLink => self.read_link(hand, node),
             Operation::OpenDir => self.open_folder(hand, node),
             Operation::ReadDir {
                 handle,
@@ -53,10 +55,34 @@ impl Tables {
                 };
                 self.read_folder(hand, node, wanted)
             }
-            Operation::MkNod { name, mode } => self.make_file(hand, caller, &name, mode),
+            operation => self.answer_of_names(hand, caller, operation),
+        }
+    }
+
+    // Requests by which names change, and those on open files.
+    fn answer_of_names<K: Machine>(
+        &mut self,
+        hand: &mut Hand<K>,
+        caller: Caller,
+        operation: Operation,
+    ) -> Result<Reply, Failure>
+        ensures bound { bound hand.new ≡ bound hand.old }
+        ensures answers { IsOfNames (seen self.old) (seen self.new) hand.old.pid caller operation
+            hand.old.shown hand.new.shown result }
+    {
+        let node = caller.node;
+        match operation {
+            Operation::SymLink { name, target } => self.make_link(hand, caller, &name, target),
+            Operation::MkNod { name, mode } => self.make_node(hand, caller, &name, mode),
             Operation::MkDir { name, mode } => self.make_directory(hand, caller, &name, mode),
-            Operation::Create { name, flags, mode } => {
-                self.create(hand, caller, &name, flags, mode)
+            Operation::Create {
+                name,
+                flags,
+                mode,
+                how,
+            } => {
+                let creation = creation_by(caller.owner, flags, mode, how);
+                self.create(hand, caller, &name, creation)
             }
             Operation::Link { node: of, new_name } => self.link(hand, node, of, &new_name),
             Operation::Unlink { name } => self.unlink(hand, node, &name),
@@ -67,7 +93,23 @@ impl Tables {
                 new_name,
                 flags,
             } => self.move_name(hand, node, &name, new_parent, &new_name, flags),
-            Operation::Open { flags } => self.open(hand, node, flags),
+            operation => self.answer_of_files(hand, node, operation),
+        }
+    }
+
+    // Requests on open files. Others are not served.
+    fn answer_of_files<K: Machine>(
+        &mut self,
+        hand: &mut Hand<K>,
+        node: u64,
+        operation: Operation,
+    ) -> Result<Reply, Failure>
+        ensures bound { bound hand.new ≡ bound hand.old }
+        ensures answers { IsOfFiles (seen self.old) (seen self.new) hand.old.pid node operation
+            hand.old.shown hand.new.shown result }
+    {
+        match operation {
+            Operation::Open { flags, how } => self.open(hand, node, flags, how),
             Operation::Read {
                 handle,
                 offset,
@@ -77,10 +119,10 @@ impl Tables {
             Operation::Write {
                 handle,
                 offset,
-                write_flags: _,
+                write_flags,
                 open_flags,
                 bytes,
-            } => self.write(hand, handle, offset, open_flags, bytes),
+            } => self.write(hand, node, handle, offset, write_flags, open_flags, bytes),
             Operation::Lseek {
                 handle,
                 offset,

@@ -6,17 +6,23 @@ ghost use Rattle.mount_requests.specs.Found.{path_to, stepper_at, stepper_by, st
 ghost use Rattle.mount_requests.specs.Seen.{IsUnknown, seen};
 
 use crate::failure::Failure;
-use fuse::Errno;
+use fuse::{Errno, Time};
 use heap::Heap;
 use ids::{Bytes, Fd, Kind, Num, Pid};
 use mount_tables::{
-    AttributeTable, Folders, OpenFile, OpenFiles, PLAIN, Processes, State, Views, first_process,
-    view_of,
+    Folders, OpenFile, OpenFiles, PLAIN, Processes, State, Views, first_process, view_of,
 };
 use nodes::Nodes;
 use std::alloc::AllocError;
+use view_times::ViewTimes;
 
-/// What is known of nodes, transactions, open files and directories, attributes and processes.
+// The time before any request.
+const START: Time = Time {
+    seconds: 0,
+    nanoseconds: 0,
+};
+
+/// What is known of nodes, transactions, open files and directories, times and processes.
 pub struct Tables {
     /// Where memory comes from.
     pub heap: Heap,
@@ -28,8 +34,10 @@ pub struct Tables {
     pub files: OpenFiles,
     /// The directories that are open.
     pub folders: Folders,
-    /// Modes, owners and times.
-    pub attributes: AttributeTable,
+    /// The times of all objects, as each view sees them.
+    pub times: ViewTimes,
+    /// When the request is served.
+    pub time: Time,
     /// The processes by which requests step.
     pub processes: Processes,
 }
@@ -42,7 +50,8 @@ impl Drop for Tables {
             views: _,
             files: _,
             folders: _,
-            attributes: _,
+            times: _,
+            time: _,
             processes: _,
         } = self;
     }
@@ -90,7 +99,8 @@ impl Tables {
             views: Views::new(heap),
             files: OpenFiles::new(heap),
             folders: Folders::new(heap),
-            attributes: AttributeTable::new(heap),
+            times: ViewTimes::new(heap),
+            time: START,
             processes: Processes::new(heap),
         }
     }

@@ -1,5 +1,5 @@
 //! What a mounted tree keeps beside its kernel: the numbers of its nodes, open files and directories,
-//! the transactions that are mounted, the processes that step for requests, and attributes.
+//! the transactions that are mounted, and the processes that step for requests.
 //!
 //! Nothing here knows a kernel. Contracts see each table as plain maps, and say of each change what
 //! the maps are then. What is changed behind a `reserve` takes no memory.
@@ -17,7 +17,7 @@ mod open_files;
 mod processes;
 mod views;
 
-pub use attributes::{AttributeTable, Owner};
+pub use attributes::{attr_of, attr_of_node};
 pub use file_key::FileKey;
 pub use folders::{Folder, Folders};
 pub use numbers::{

@@ -4,12 +4,13 @@ ghost use Rattle.std.specs.Prelude.{◌≡◌};
 
 use crate::texts::{Text, owned};
 use course::{
-    Fault, Hand, Made, Object, Twice, append, begin, close, close_spare, create_cut, cut_if, end,
-    find, fork, give_up, link, list, list_at, look_nowhere, look_up, make_directory, make_file,
-    move_name, open_cut, read, remove_directory, resize, stat_file, unlink, write,
+    Again, Cut, Fault, Hand, Made, Object, Paths, Place, Twice, Update, append, apply_update,
+    begin, close, close_spare, create_cut, cut_if, drop_if, end, find, fork, give_up, link, list,
+    list_at, look_nowhere, look_up, make_directory, make_link, make_node, move_name, open_cut,
+    permissions_in, read, read_link, remove_directory, stat_file, unlink, write,
 };
 use heap::Heap;
-use ids::{Fd, Kind, Num, Stat};
+use ids::{Fd, Kind, NewOwner, Num, Owner, Rights, Special, Stat};
 use machine::Machine;
 use std::fmt::Debug;
 use std::process::Abort;
@@ -24,7 +25,10 @@ pub(crate) enum Act {
     CreateCut,
     // It has to be a new one.
     CreateNew,
+    // Set-user-ID and set-group-ID go with the bytes.
+    CutDropping,
     CutIf,
+    DropIf,
     End,
     // By the path, and by the descriptor, where the path leads elsewhere.
     Find,
@@ -37,7 +41,10 @@ pub(crate) enum Act {
     LookNowhere,
     LookUp,
     MakeDirectory,
+    MakeFifo,
     MakeFile,
+    // To the target `/b`.
+    MakeLink,
     // With and without taking the place of what is there.
     Move,
     MoveIfAbsent,
@@ -45,12 +52,16 @@ pub(crate) enum Act {
     // By a path that leads to another file.
     OpenOther,
     Read,
+    ReadLink,
     RemoveDirectory,
     // By the path, and by the descriptor.
     Resize,
     ResizeOpen,
     StatFile,
     Unlink,
+    // The length, the owner and the permissions: by the path, and by the descriptor.
+    Update,
+    UpdateOpen,
     Write,
 }
 
@@ -62,11 +73,11 @@ pub(crate) struct Outcome {
 }
 
 // What an object is like, but for its number, which may be another one behind a refusal.
-pub(crate) type Seen = (Kind, u32, u32);
+pub(crate) type Seen = (Kind, u32, u32, Rights);
 
 pub(crate) fn seen(looked: Result<Stat, Fault>) -> Result<Seen, Fault> {
     match looked {
-        Ok(stat) => Ok((stat.kind, stat.size, stat.links)),
+        Ok(stat) => Ok((stat.kind, stat.size, stat.links, stat.rights)),
         Err(fault) => Err(fault),
     }
 }
@@ -76,7 +87,8 @@ fn seen_made(made: Result<Made, Fault>) -> Result<(Fd, bool, Seen), Fault> {
     match made {
         Ok(made) => {
             let stat = made.stat;
-            Ok((made.fd, made.is_new, (stat.kind, stat.size, stat.links)))
+            let seen = (stat.kind, stat.size, stat.links, stat.rights);
+            Ok((made.fd, made.is_new, seen))
         }
         Err(fault) => Err(fault),
     }
@@ -107,6 +119,57 @@ fn twice(rt: &impl Abort, heap: Heap, path: &str) -> Twice
     }
 }
 
+fn again(rt: &impl Abort, heap: Heap, path: &str) -> Again {
+    Again {
+        owned: owned(rt, heap, path),
+        permitted: owned(rt, heap, path),
+        told: owned(rt, heap, path),
+    }
+}
+
+fn paths(rt: &impl Abort, heap: Heap, path: &str) -> Option<Paths> {
+    Some(Paths {
+        looked: owned(rt, heap, path),
+        sized: owned(rt, heap, path),
+        owned: owned(rt, heap, path),
+        permitted: owned(rt, heap, path),
+    })
+}
+
+fn root(rt: &impl Abort, heap: Heap) -> Place {
+    Place {
+        path: owned(rt, heap, "/"),
+        inode: Num(0),
+    }
+}
+
+// What is given to what is made.
+fn given() -> Rights {
+    Rights {
+        permissions: permissions_in(0o700),
+        owner: Owner { user: 1, group: 2 },
+    }
+}
+
+fn length() -> Update {
+    Update {
+        length: Some(3),
+        owner: None,
+        permissions: None,
+    }
+}
+
+fn all() -> Update {
+    Update {
+        length: Some(3),
+        owner: Some(NewOwner {
+            user: Some(1),
+            group: Some(2),
+        }),
+        permissions: Some(permissions_in(0o700)),
+    }
+}
+
 fn object(rt: &impl Abort, heap: Heap, inode: Num, path: &str, fd: Option<Fd>) -> Object {
     Object {
         inode,
@@ -124,6 +187,7 @@ fn spare(inode: Num) -> Made {
             num: inode,
             size: 0,
             links: 1,
+            rights: Rights::first(Some(Kind::File)),
         },
         is_new: false,
     }
@@ -140,7 +204,9 @@ fn on_file<K: Machine>(
         Act::Append => told(rt, heap, append(hand, Fd(0), owned(rt, heap, "more"))),
         Act::Close => told(rt, heap, close(hand, Fd(0))),
         Act::CloseSpare => told(rt, heap, seen_made(close_spare(hand, true, spare(inode)))),
-        Act::CutIf => told(rt, heap, cut_if(hand, Fd(0), true)),
+        Act::CutDropping => told(rt, heap, cut_if(hand, Fd(0), Cut::Dropping)),
+        Act::CutIf => told(rt, heap, cut_if(hand, Fd(0), Cut::Plain)),
+        Act::DropIf => told(rt, heap, drop_if(hand, Fd(0), true)),
         Act::Read => told(rt, heap, read(hand, heap, Fd(0), 100, 1)),
         Act::StatFile => told(rt, heap, seen(stat_file(hand, Fd(0)))),
         _ => told(rt, heap, write(hand, Fd(0), owned(rt, heap, "other"), 2)),
@@ -154,35 +220,50 @@ fn on_opening<K: Machine>(
     act: Act,
     inode: Num,
 ) -> Outcome {
+    let root = root(rt, heap);
     let first = owned(rt, heap, "/a");
     let second = owned(rt, heap, "/a");
     match act {
-        Act::CreateCut => told(
-            rt,
-            heap,
-            seen_made(create_cut(hand, None, first, second, false, true)),
-        ),
-        Act::CreateNew => told(
-            rt,
-            heap,
-            seen_made(create_cut(hand, None, first, second, true, false)),
-        ),
-        Act::MakeFile => told(rt, heap, seen(make_file(hand, None, first, second))),
-        Act::OpenCut => told(rt, heap, open_cut(hand, first, inode, true)),
+        Act::CreateCut => {
+            let made = create_cut(hand, root, first, second, false, Cut::Plain, given());
+            told(rt, heap, seen_made(made))
+        }
+        Act::CreateNew => {
+            let made = create_cut(hand, root, first, second, true, Cut::No, given());
+            told(rt, heap, seen_made(made))
+        }
+        Act::MakeFile => {
+            let made = make_node(hand, root, first, again(rt, heap, "/a"), None, given());
+            told(rt, heap, seen(made))
+        }
+        Act::OpenCut => told(rt, heap, open_cut(hand, first, inode, Cut::Plain)),
         _ => told(
             rt,
             heap,
-            open_cut(hand, owned(rt, heap, "/b"), inode, false),
+            open_cut(hand, owned(rt, heap, "/b"), inode, Cut::No),
         ),
     }
 }
 
 fn on_path<K: Machine>(rt: &impl Abort, heap: Heap, hand: &mut Hand<K>, act: Act) -> Outcome {
+    let root = root(rt, heap);
     let first = owned(rt, heap, "/a");
-    let second = owned(rt, heap, "/a");
+    let again = again(rt, heap, "/a");
     match act {
         Act::List => told(rt, heap, list(hand, heap, first)),
-        Act::MakeDirectory => told(rt, heap, seen(make_directory(hand, None, first, second))),
+        Act::MakeDirectory => {
+            let made = make_directory(hand, root, first, again, given());
+            told(rt, heap, seen(made))
+        }
+        Act::MakeFifo => {
+            let made = make_node(hand, root, first, again, Some(Special::Fifo), given());
+            told(rt, heap, seen(made))
+        }
+        Act::MakeLink => {
+            let target = owned(rt, heap, "/b");
+            let made = make_link(hand, root, target, first, again, given().owner);
+            told(rt, heap, seen(made))
+        }
         Act::RemoveDirectory => told(rt, heap, remove_directory(hand, None, first)),
         Act::LookUp => told(rt, heap, seen(look_up(hand, None, first))),
         _ => told(rt, heap, unlink(hand, None, first)),
@@ -222,13 +303,31 @@ fn on_object<K: Machine>(
 ) -> Outcome {
     let by_path = object(rt, heap, inode, "/a", None);
     let by_descriptor = object(rt, heap, inode, "/b", Some(Fd(0)));
-    let paths = Some(twice(rt, heap, "/a"));
+    let paths = paths(rt, heap, "/a");
     match act {
         Act::Find => told(rt, heap, seen(find(hand, by_path))),
         Act::FindOpen => told(rt, heap, seen(find(hand, by_descriptor))),
-        Act::ListAt => told(rt, heap, list_at(hand, heap, inode, paths)),
-        Act::Resize => told(rt, heap, seen(resize(hand, by_path, paths, 3))),
-        _ => told(rt, heap, seen(resize(hand, by_descriptor, paths, 3))),
+        Act::ListAt => {
+            let twice = Some(twice(rt, heap, "/a"));
+            told(rt, heap, list_at(hand, heap, inode, twice))
+        }
+        Act::ReadLink => told(
+            rt,
+            heap,
+            read_link(hand, heap, twice(rt, heap, "/a"), inode),
+        ),
+        Act::Resize => told(rt, heap, seen(apply_update(hand, by_path, paths, length()))),
+        Act::ResizeOpen => told(
+            rt,
+            heap,
+            seen(apply_update(hand, by_descriptor, paths, length())),
+        ),
+        Act::Update => told(rt, heap, seen(apply_update(hand, by_path, paths, all()))),
+        _ => told(
+            rt,
+            heap,
+            seen(apply_update(hand, by_descriptor, paths, all())),
+        ),
     }
 }
 
@@ -256,20 +355,31 @@ pub(crate) fn act_on<K: Machine>(
         Act::Append
         | Act::Close
         | Act::CloseSpare
+        | Act::CutDropping
         | Act::CutIf
+        | Act::DropIf
         | Act::Read
         | Act::StatFile
         | Act::Write => on_file(rt, heap, hand, act, inode),
         Act::CreateCut | Act::CreateNew | Act::MakeFile | Act::OpenCut | Act::OpenOther => {
             on_opening(rt, heap, hand, act, inode)
         }
-        Act::List | Act::MakeDirectory | Act::RemoveDirectory | Act::LookUp | Act::Unlink => {
-            on_path(rt, heap, hand, act)
-        }
+        Act::List
+        | Act::MakeDirectory
+        | Act::MakeFifo
+        | Act::MakeLink
+        | Act::RemoveDirectory
+        | Act::LookUp
+        | Act::Unlink => on_path(rt, heap, hand, act),
         Act::Link | Act::Move | Act::MoveIfAbsent => on_paths(rt, heap, hand, act, inode),
-        Act::Find | Act::FindOpen | Act::ListAt | Act::Resize | Act::ResizeOpen => {
-            on_object(rt, heap, hand, act, inode)
-        }
+        Act::Find
+        | Act::FindOpen
+        | Act::ListAt
+        | Act::ReadLink
+        | Act::Resize
+        | Act::ResizeOpen
+        | Act::Update
+        | Act::UpdateOpen => on_object(rt, heap, hand, act, inode),
         Act::Begin | Act::End | Act::Fork | Act::GiveUp | Act::LookNowhere => {
             on_process(rt, heap, hand, act)
         }

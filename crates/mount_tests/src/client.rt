@@ -1,7 +1,7 @@
 // Requests on a server, by lines of words: a verb, a path, and what else the verb wants.
 use crate::texts::{Text, owned, told};
-use fuse::bits::{OPEN_APPEND, OPEN_EXCLUSIVE, OPEN_TRUNCATE, RENAME_NO_REPLACE};
-use fuse::{Changes, Operation, Reply, Request, Whence};
+use fuse::bits::{MODE_PIPE, OPEN_APPEND, OPEN_EXCLUSIVE, OPEN_TRUNCATE, RENAME_NO_REPLACE};
+use fuse::{Changes, Operation, Reply, Request, Time, Whence};
 use heap::Heap;
 use ids::{Bytes, Limits};
 use machine::Machine;
@@ -16,6 +16,12 @@ const NONE: u64 = u64::MAX;
 
 // To read and write.
 const BOTH: u32 = 2;
+
+// When each request is served.
+const NOW: Time = Time {
+    seconds: 1,
+    nanoseconds: 0,
+};
 
 // A server, and the numbers of the file and of the directory that were opened last.
 pub(crate) struct Client<K: Machine> {
@@ -92,14 +98,15 @@ fn line_of(text: &str) -> Line<'_> {
 
 fn serve<K: Machine>(client: &mut Client<K>, asked: Asked) -> Option<Reply> {
     let Asked { node, operation } = asked;
-    client.server.serve(Request {
+    let request = Request {
         unique: 1,
         node,
         uid: 0,
         gid: 0,
         pid: 1,
         operation,
-    })
+    };
+    client.server.serve(request, NOW)
 }
 
 // The node that a look-up has found, or the number of none.
@@ -152,20 +159,27 @@ fn of_name(verb: &str, name: Bytes) -> Operation {
         "lookup" => Operation::Lookup { name },
         "mkdir" => Operation::MkDir { name, mode: 0o700 },
         "mknod" => Operation::MkNod { name, mode: 0o600 },
+        "mkfifo" => Operation::MkNod {
+            name,
+            mode: MODE_PIPE | 0o600,
+        },
         "create" => Operation::Create {
             name,
             flags: BOTH,
             mode: 0o600,
+            how: 0,
         },
         "create_new" => Operation::Create {
             name,
             flags: BOTH | OPEN_EXCLUSIVE,
             mode: 0o600,
+            how: 0,
         },
         "create_cut" => Operation::Create {
             name,
             flags: BOTH | OPEN_TRUNCATE,
             mode: 0o600,
+            how: 0,
         },
         "unlink" => Operation::Unlink { name },
         _ => Operation::RmDir { name },
@@ -193,16 +207,24 @@ fn writing(verb: &str, handle: u64, bytes: Bytes) -> Operation {
     }
 }
 
-fn resizing(length: &str) -> Operation {
+// A length is set, or a mode and a user, by a decimal number.
+fn setting(verb: &str, number: &str) -> Operation {
+    let number = number.parse::<u32>().unwrap_or(0);
+    let (size, rights) = if verb == "rights" {
+        (None, Some(number))
+    } else {
+        (Some(u64::from(number)), None)
+    };
     Operation::SetAttr {
         changes: Changes {
             handle: None,
-            size: Some(length.parse::<u64>().unwrap_or(0)),
+            size,
             accessed: None,
             modified: None,
-            mode: None,
-            uid: None,
+            mode: rights,
+            uid: rights,
             gid: None,
+            drops_set_ids: false,
         },
     }
 }
@@ -239,10 +261,15 @@ fn of_open(verb: &str, file: u64, folder: u64) -> Operation {
 fn of_node(verb: &str) -> Option<Operation> {
     match verb {
         "getattr" => Some(Operation::GetAttr { handle: None }),
-        "open" => Some(Operation::Open { flags: BOTH }),
+        "open" => Some(Operation::Open {
+            flags: BOTH,
+            how: 0,
+        }),
         "cut" => Some(Operation::Open {
             flags: BOTH | OPEN_TRUNCATE,
+            how: 0,
         }),
+        "readlink" => Some(Operation::ReadLink),
         "opendir" => Some(Operation::OpenDir),
         "forget" => Some(Operation::Forget { lookups: 1 }),
         "statfs" => Some(Operation::StatFs),
@@ -254,13 +281,24 @@ fn on_node<K: Machine>(rt: &impl Abort, client: &mut Client<K>, line: Line<'_>) 
     let node = node_of(rt, client, line.path);
     let operation = match line.verb {
         "write" | "append" => writing(line.verb, client.file, owned(rt, client.heap, line.other)),
-        "length" => resizing(line.other),
+        "length" | "rights" => setting(line.verb, line.other),
         verb => match of_node(verb) {
             Some(operation) => operation,
             None => of_open(verb, client.file, client.folder),
         },
     };
     Asked { node, operation }
+}
+
+// A link, of which a line says the target behind its path.
+fn symlink<K: Machine>(rt: &impl Abort, client: &mut Client<K>, line: Line<'_>) -> Asked {
+    let place = place_of(rt, client, line.path);
+    let name = owned(rt, client.heap, place.name);
+    let target = owned(rt, client.heap, line.other);
+    Asked {
+        node: place.parent,
+        operation: Operation::SymLink { name, target },
+    }
 }
 
 fn on_name<K: Machine>(rt: &impl Abort, client: &mut Client<K>, line: Line<'_>) -> Asked {
@@ -294,8 +332,10 @@ fn on_names<K: Machine>(rt: &impl Abort, client: &mut Client<K>, line: Line<'_>)
 fn asked_by<K: Machine>(rt: &impl Abort, client: &mut Client<K>, line: Line<'_>) -> Asked {
     match line.verb {
         "link" | "rename" | "move" => on_names(rt, client, line),
+        "symlink" => symlink(rt, client, line),
         "lookup"
         | "mkdir"
+        | "mkfifo"
         | "mknod"
         | "create"
         | "create_new"
@@ -342,8 +382,9 @@ pub(crate) fn ask<K: Machine>(
 }
 
 // What is asked of each path that is shown.
-static LOOKS: [&str; 7] = [
+static LOOKS: [&str; 8] = [
     "getattr",
+    "readlink",
     "opendir",
     "readdir",
     "releasedir",

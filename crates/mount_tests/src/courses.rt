@@ -2,7 +2,7 @@
 // refused in turn.
 use crate::acts::{Act, Outcome, act_on, seen};
 use crate::texts::{Text, is_same, owned};
-use course::{Fault, Hand, close, list, look_up, open_cut, read, stat_file};
+use course::{Cut, Fault, Hand, close, list, look_up, open_cut, read, stat_file};
 use heap::Heap;
 use ids::{Answer, Call, Fd, Num, Op, Pid, Priority, Reply, Stat};
 use machine::Machine;
@@ -13,6 +13,9 @@ use std::process::Abort;
 // More requests for memory than any row makes.
 const MOST: u64 = 200;
 
+// How many courses of a row may end with NoMemory.
+const MOST_REFUSED: usize = 6;
+
 pub(crate) struct Course {
     pub(crate) act: Act,
     // Steps that come before, each on a line of its own. None of them fails.
@@ -21,7 +24,7 @@ pub(crate) struct Course {
     pub(crate) whole: &'static str,
     // The steps of a course that is told by another error, although memory was refused.
     pub(crate) told: Option<&'static str>,
-    // The steps of courses that end with NoMemory, at most four. Each of all these comes.
+    // The steps of courses that end with NoMemory, at most six. Each of all these comes.
     pub(crate) refused: &'static [&'static str],
 }
 
@@ -63,7 +66,7 @@ fn number_in(reply: &Reply) -> Num {
 
 // The number of what is at the path `/a`.
 fn number_of<K: Machine>(rt: &impl Abort, heap: Heap, kernel: &mut K) -> Num {
-    let reply = kernel.step(Pid(1), Op::Call(Call::Stat(owned(rt, heap, "/a"))));
+    let reply = kernel.step(Pid(1), Op::Call(Call::Lstat(owned(rt, heap, "/a"))));
     number_in(&reply)
 }
 
@@ -92,7 +95,7 @@ fn opened_by(opened: &Result<Fd, Fault>) -> Option<Fd> {
     }
 }
 
-// Shows what is at a path: its kind, length and links, its names or its bytes.
+// Shows what is at a path: its kind, length, links, permissions and owner, its names or its bytes.
 fn show_path<K: Machine>(
     rt: &impl Abort,
     heap: Heap,
@@ -104,7 +107,7 @@ fn show_path<K: Machine>(
     let inode = number_by(&looked);
     put(rt, text, seen(looked));
     put(rt, text, list(hand, heap, owned(rt, heap, path)));
-    let opened = open_cut(hand, owned(rt, heap, path), inode, false);
+    let opened = open_cut(hand, owned(rt, heap, path), inode, Cut::No);
     let fd = opened_by(&opened);
     put(rt, text, opened);
     if let Some(fd) = fd {
@@ -205,7 +208,7 @@ fn is_refused(ran: &Ran) -> bool {
 #[derive(Clone, Copy)]
 struct Counts {
     told: u64,
-    refused: [u64; 4],
+    refused: [u64; MOST_REFUSED],
 }
 
 // The steps of a row's course of this number, where it has one.
@@ -232,7 +235,7 @@ fn count<K: Machine>(
             && (told > 0 || is_same(&ran.shown, &whole.shown));
     }
     let mut is_one = false;
-    for index in 0..4usize {
+    for index in 0..MOST_REFUSED {
         let came = came::<K>(rt, heap, row, refused_at(row, index), ran);
         counts.refused[index] = counts.refused[index].wrapping_add(came);
         is_one = is_one || came > 0;
@@ -250,7 +253,7 @@ fn refuse_each<K: Machine>(
 ) -> Counts {
     let mut counts = Counts {
         told: 0,
-        refused: [0; 4],
+        refused: [0; MOST_REFUSED],
     };
     for request in 1..MOST {
         let ran = run::<K>(rt, heap, row, request);
@@ -274,7 +277,7 @@ fn check<K: Machine>(rt: &impl Abort, heap: Heap, row: &Course, wrong: &mut Text
     let counts = refuse_each::<K>(rt, heap, row, &whole, wrong);
     let Counts { told, refused } = counts;
     let mut is_right = is_whole && (told > 0) == row.told.is_some();
-    for index in 0..4usize {
+    for index in 0..MOST_REFUSED {
         is_right = is_right && (refused[index] > 0) == refused_at(row, index).is_some();
     }
     if !is_right {

@@ -3,7 +3,7 @@ use crate::acts::Act;
 use crate::courses::{Course, check_courses};
 use kernel::Kernel;
 
-static FILES: [Course; 11] = [
+static FILES: [Course; 16] = [
     Course {
         act: Act::Append,
         before: "1 open /a RDWR,CREAT
@@ -48,6 +48,60 @@ static FILES: [Course; 11] = [
         whole: "1 ftruncate 0 0",
         told: None,
         refused: &[""],
+    },
+    Course {
+        act: Act::CutDropping,
+        before: "1 open /a RDWR,CREAT
+1 write 0 first
+1 chmod /a 6755",
+        whole: "1 fchown 0 - -
+1 ftruncate 0 0",
+        told: None,
+        refused: &["", "1 fchown 0 - -"],
+    },
+    Course {
+        act: Act::CutDropping,
+        before: "1 open /a RDWR,CREAT
+1 write 0 first
+1 chmod /a 6755
+1 close 0
+1 begin
+1 open /a RDWR",
+        whole: "1 fchown 0 - -
+1 ftruncate 0 0",
+        told: None,
+        refused: &["", "1 fchown 0 - -"],
+    },
+    Course {
+        act: Act::DropIf,
+        before: "1 open /a RDWR,CREAT
+1 write 0 first",
+        whole: "1 fstat 0",
+        told: None,
+        refused: &[],
+    },
+    Course {
+        act: Act::DropIf,
+        before: "1 open /a RDWR,CREAT
+1 write 0 first
+1 chmod /a 6755",
+        whole: "1 fstat 0
+1 fchown 0 - -",
+        told: None,
+        refused: &["1 fstat 0"],
+    },
+    Course {
+        act: Act::DropIf,
+        before: "1 open /a RDWR,CREAT
+1 write 0 first
+1 chmod /a 6755
+1 close 0
+1 begin
+1 open /a RDWR",
+        whole: "1 fstat 0
+1 fchown 0 - -",
+        told: None,
+        refused: &["", "1 fstat 0"],
     },
     Course {
         act: Act::Read,
@@ -112,24 +166,39 @@ static OPENS: [Course; 12] = [
     Course {
         act: Act::CreateCut,
         before: "",
-        whole: "1 open /a RDWR,CREAT,EXCL
+        whole: "1 lstat /
+1 open /a RDWR,CREAT,EXCL
+1 fchown 0 1 2
+1 fchmod 0 700
 1 fstat 0",
         told: None,
-        refused: &[""],
+        refused: &[
+            "1 lstat /",
+            "1 lstat /
+1 open /a RDWR,CREAT,EXCL
+1 close 0",
+            "1 lstat /
+1 open /a RDWR,CREAT,EXCL
+1 fchown 0 1 2
+1 close 0",
+        ],
     },
     Course {
         act: Act::CreateCut,
         before: "1 open /a RDWR,CREAT
 1 write 0 first
 1 close 0",
-        whole: "1 open /a RDWR,CREAT,EXCL
+        whole: "1 lstat /
+1 open /a RDWR,CREAT,EXCL
 1 open /a RDWR
 1 fstat 0
 1 ftruncate 0 0",
         told: None,
         refused: &[
-            "1 open /a RDWR,CREAT,EXCL",
-            "1 open /a RDWR,CREAT,EXCL
+            "1 lstat /
+1 open /a RDWR,CREAT,EXCL",
+            "1 lstat /
+1 open /a RDWR,CREAT,EXCL
 1 open /a RDWR
 1 fstat 0
 1 close 0",
@@ -141,18 +210,23 @@ static OPENS: [Course; 12] = [
 1 write 0 first
 1 close 0
 1 begin",
-        whole: "1 open /a RDWR,CREAT,EXCL
+        whole: "1 lstat /
+1 open /a RDWR,CREAT,EXCL
 1 open /a RDWR
 1 fstat 0
 1 ftruncate 0 0",
         told: None,
         refused: &[
             "",
-            "1 open /a RDWR,CREAT,EXCL",
-            "1 open /a RDWR,CREAT,EXCL
+            "1 lstat /",
+            "1 lstat /
+1 open /a RDWR,CREAT,EXCL",
+            "1 lstat /
+1 open /a RDWR,CREAT,EXCL
 1 open /a RDWR
 1 close 0",
-            "1 open /a RDWR,CREAT,EXCL
+            "1 lstat /
+1 open /a RDWR,CREAT,EXCL
 1 open /a RDWR
 1 fstat 0
 1 close 0",
@@ -161,20 +235,46 @@ static OPENS: [Course; 12] = [
     Course {
         act: Act::CreateNew,
         before: "",
-        whole: "1 open /a RDWR,CREAT,EXCL
+        whole: "1 lstat /
+1 open /a RDWR,CREAT,EXCL
+1 fchown 0 1 2
+1 fchmod 0 700
 1 fstat 0",
         told: None,
-        refused: &[""],
+        refused: &[
+            "1 lstat /",
+            "1 lstat /
+1 open /a RDWR,CREAT,EXCL
+1 close 0",
+            "1 lstat /
+1 open /a RDWR,CREAT,EXCL
+1 fchown 0 1 2
+1 close 0",
+        ],
     },
     Course {
         act: Act::CreateNew,
         before: "1 begin",
-        whole: "1 open /a RDWR,CREAT,EXCL
+        whole: "1 lstat /
+1 open /a RDWR,CREAT,EXCL
+1 fchown 0 1 2
+1 fchmod 0 700
 1 fstat 0",
         told: None,
         refused: &[
             "",
-            "1 open /a RDWR,CREAT,EXCL
+            "1 lstat /",
+            "1 lstat /
+1 open /a RDWR,CREAT,EXCL
+1 close 0",
+            "1 lstat /
+1 open /a RDWR,CREAT,EXCL
+1 fchown 0 1 2
+1 close 0",
+            "1 lstat /
+1 open /a RDWR,CREAT,EXCL
+1 fchown 0 1 2
+1 fchmod 0 700
 1 close 0",
         ],
     },
@@ -183,35 +283,66 @@ static OPENS: [Course; 12] = [
         before: "1 open /a RDWR,CREAT
 1 write 0 first
 1 close 0",
-        whole: "1 open /a RDWR,CREAT,EXCL",
+        whole: "1 lstat /
+1 open /a RDWR,CREAT,EXCL",
         told: None,
         refused: &[],
     },
     Course {
         act: Act::MakeFile,
         before: "",
-        whole: "1 open /a RDWR,CREAT,EXCL
+        whole: "1 lstat /
+1 open /a RDWR,CREAT,EXCL
+1 fchown 0 1 2
+1 fchmod 0 700
 1 fstat 0
 1 close 0",
         told: None,
         refused: &[
-            "",
-            "1 open /a RDWR,CREAT,EXCL
+            "1 lstat /",
+            "1 lstat /
+1 open /a RDWR,CREAT,EXCL
+1 close 0",
+            "1 lstat /
+1 open /a RDWR,CREAT,EXCL
+1 fchown 0 1 2
+1 close 0",
+            "1 lstat /
+1 open /a RDWR,CREAT,EXCL
+1 fchown 0 1 2
+1 fchmod 0 700
 1 fstat 0",
         ],
     },
     Course {
         act: Act::MakeFile,
         before: "1 begin",
-        whole: "1 open /a RDWR,CREAT,EXCL
+        whole: "1 lstat /
+1 open /a RDWR,CREAT,EXCL
+1 fchown 0 1 2
+1 fchmod 0 700
 1 fstat 0
 1 close 0",
         told: None,
         refused: &[
             "",
-            "1 open /a RDWR,CREAT,EXCL
+            "1 lstat /",
+            "1 lstat /
+1 open /a RDWR,CREAT,EXCL
 1 close 0",
-            "1 open /a RDWR,CREAT,EXCL
+            "1 lstat /
+1 open /a RDWR,CREAT,EXCL
+1 fchown 0 1 2
+1 close 0",
+            "1 lstat /
+1 open /a RDWR,CREAT,EXCL
+1 fchown 0 1 2
+1 fchmod 0 700
+1 close 0",
+            "1 lstat /
+1 open /a RDWR,CREAT,EXCL
+1 fchown 0 1 2
+1 fchmod 0 700
 1 fstat 0",
         ],
     },

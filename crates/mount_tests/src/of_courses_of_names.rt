@@ -3,17 +3,17 @@ use crate::acts::Act;
 use crate::courses::{Course, check_courses};
 use kernel::Kernel;
 
-static NAMES: [Course; 16] = [
+static NAMES: [Course; 22] = [
     Course {
         act: Act::Link,
         before: "1 open /a RDWR,CREAT
 1 write 0 first
 1 close 0",
-        whole: "1 stat /a
+        whole: "1 lstat /a
 1 link /a /b
-1 stat /b",
+1 lstat /b",
         told: None,
-        refused: &["1 stat /a"],
+        refused: &["1 lstat /a"],
     },
     Course {
         act: Act::Link,
@@ -21,14 +21,14 @@ static NAMES: [Course; 16] = [
 1 write 0 first
 1 close 0
 1 begin",
-        whole: "1 stat /a
+        whole: "1 lstat /a
 1 link /a /b
-1 stat /b",
+1 lstat /b",
         told: None,
         refused: &[
             "",
-            "1 stat /a",
-            "1 stat /a
+            "1 lstat /a",
+            "1 lstat /a
 1 link /a /b",
         ],
     },
@@ -43,18 +43,150 @@ static NAMES: [Course; 16] = [
     Course {
         act: Act::MakeDirectory,
         before: "",
-        whole: "1 mkdir /a
-1 stat /a",
+        whole: "1 lstat /
+1 mkdir /a
+1 chown /a 1 2
+1 chmod /a 700
+1 lstat /a",
         told: None,
-        refused: &[""],
+        refused: &[
+            "1 lstat /",
+            "1 lstat /
+1 mkdir /a",
+            "1 lstat /
+1 mkdir /a
+1 chown /a 1 2",
+        ],
     },
     Course {
         act: Act::MakeDirectory,
         before: "1 begin",
-        whole: "1 mkdir /a
-1 stat /a",
+        whole: "1 lstat /
+1 mkdir /a
+1 chown /a 1 2
+1 chmod /a 700
+1 lstat /a",
         told: None,
-        refused: &["", "1 mkdir /a"],
+        refused: &[
+            "",
+            "1 lstat /",
+            "1 lstat /
+1 mkdir /a",
+            "1 lstat /
+1 mkdir /a
+1 chown /a 1 2",
+            "1 lstat /
+1 mkdir /a
+1 chown /a 1 2
+1 chmod /a 700",
+        ],
+    },
+    Course {
+        act: Act::MakeDirectory,
+        before: "1 chown / - 5
+1 chmod / 3777",
+        whole: "1 lstat /
+1 mkdir /a
+1 chown /a 1 5
+1 chmod /a 2700
+1 lstat /a",
+        told: None,
+        refused: &[
+            "1 lstat /",
+            "1 lstat /
+1 mkdir /a",
+            "1 lstat /
+1 mkdir /a
+1 chown /a 1 5",
+        ],
+    },
+    Course {
+        act: Act::MakeFifo,
+        before: "",
+        whole: "1 lstat /
+1 mknod /a fifo
+1 chown /a 1 2
+1 chmod /a 700
+1 lstat /a",
+        told: None,
+        refused: &[
+            "1 lstat /",
+            "1 lstat /
+1 mknod /a fifo",
+            "1 lstat /
+1 mknod /a fifo
+1 chown /a 1 2",
+        ],
+    },
+    Course {
+        act: Act::MakeFifo,
+        before: "1 begin",
+        whole: "1 lstat /
+1 mknod /a fifo
+1 chown /a 1 2
+1 chmod /a 700
+1 lstat /a",
+        told: None,
+        refused: &[
+            "",
+            "1 lstat /",
+            "1 lstat /
+1 mknod /a fifo",
+            "1 lstat /
+1 mknod /a fifo
+1 chown /a 1 2",
+            "1 lstat /
+1 mknod /a fifo
+1 chown /a 1 2
+1 chmod /a 700",
+        ],
+    },
+    Course {
+        act: Act::MakeLink,
+        before: "",
+        whole: "1 lstat /
+1 symlink /b /a
+1 chown /a 1 2
+1 lstat /a",
+        told: None,
+        refused: &[
+            "1 lstat /",
+            "1 lstat /
+1 symlink /b /a",
+        ],
+    },
+    Course {
+        act: Act::MakeLink,
+        before: "1 begin",
+        whole: "1 lstat /
+1 symlink /b /a
+1 chown /a 1 2
+1 lstat /a",
+        told: None,
+        refused: &[
+            "",
+            "1 lstat /",
+            "1 lstat /
+1 symlink /b /a",
+            "1 lstat /
+1 symlink /b /a
+1 chown /a 1 2",
+        ],
+    },
+    Course {
+        act: Act::MakeLink,
+        before: "1 chown / - 5
+1 chmod / 2755",
+        whole: "1 lstat /
+1 symlink /b /a
+1 chown /a 1 5
+1 lstat /a",
+        told: None,
+        refused: &[
+            "1 lstat /",
+            "1 lstat /
+1 symlink /b /a",
+        ],
     },
     Course {
         act: Act::Move,
@@ -80,10 +212,10 @@ static NAMES: [Course; 16] = [
         before: "1 open /a RDWR,CREAT
 1 write 0 first
 1 close 0",
-        whole: "1 stat /b
+        whole: "1 lstat /b
 1 rename /a /b",
         told: None,
-        refused: &["1 stat /b"],
+        refused: &["1 lstat /b"],
     },
     Course {
         act: Act::MoveIfAbsent,
@@ -91,10 +223,10 @@ static NAMES: [Course; 16] = [
 1 write 0 first
 1 close 0
 1 begin",
-        whole: "1 stat /b
+        whole: "1 lstat /b
 1 rename /a /b",
         told: None,
-        refused: &["", "1 stat /b"],
+        refused: &["", "1 lstat /b"],
     },
     Course {
         act: Act::MoveIfAbsent,
@@ -103,7 +235,7 @@ static NAMES: [Course; 16] = [
 1 close 0
 1 open /b RDWR,CREAT
 1 close 0",
-        whole: "1 stat /b",
+        whole: "1 lstat /b",
         told: None,
         refused: &[],
     },
@@ -125,7 +257,7 @@ static NAMES: [Course; 16] = [
     Course {
         act: Act::LookUp,
         before: "1 mkdir /a",
-        whole: "1 stat /a",
+        whole: "1 lstat /a",
         told: None,
         refused: &[],
     },
@@ -133,7 +265,7 @@ static NAMES: [Course; 16] = [
         act: Act::LookUp,
         before: "1 mkdir /a
 1 begin",
-        whole: "1 stat /a",
+        whole: "1 lstat /a",
         told: None,
         refused: &[""],
     },

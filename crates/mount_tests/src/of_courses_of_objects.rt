@@ -3,13 +3,13 @@ use crate::acts::Act;
 use crate::courses::{Course, check_courses};
 use kernel::Kernel;
 
-static OBJECTS: [Course; 9] = [
+static OBJECTS: [Course; 15] = [
     Course {
         act: Act::Find,
         before: "1 open /a RDWR,CREAT
 1 write 0 first
 1 close 0",
-        whole: "1 stat /a",
+        whole: "1 lstat /a",
         told: None,
         refused: &[],
     },
@@ -17,7 +17,7 @@ static OBJECTS: [Course; 9] = [
         act: Act::FindOpen,
         before: "1 open /a RDWR,CREAT
 1 write 0 first",
-        whole: "1 stat /b
+        whole: "1 lstat /b
 1 fstat 0",
         told: None,
         refused: &[],
@@ -29,40 +29,57 @@ static OBJECTS: [Course; 9] = [
 1 close 0
 1 begin
 1 open /a RDWR",
-        whole: "1 stat /b
+        whole: "1 lstat /b
 1 fstat 0",
         told: None,
-        refused: &["", "1 stat /b"],
+        refused: &["", "1 lstat /b"],
     },
     Course {
         act: Act::ListAt,
         before: "1 mkdir /a
 1 mkdir /a/b",
-        whole: "1 stat /a
+        whole: "1 lstat /a
 1 list /a",
         told: None,
-        refused: &["1 stat /a"],
+        refused: &["1 lstat /a"],
     },
     Course {
         act: Act::ListAt,
         before: "1 mkdir /a
 1 mkdir /a/b
 1 begin",
-        whole: "1 stat /a
+        whole: "1 lstat /a
 1 list /a",
         told: None,
-        refused: &["", "1 stat /a"],
+        refused: &["", "1 lstat /a"],
+    },
+    Course {
+        act: Act::ReadLink,
+        before: "1 symlink /b /a",
+        whole: "1 lstat /a
+1 readlink /a",
+        told: None,
+        refused: &[],
+    },
+    Course {
+        act: Act::ReadLink,
+        before: "1 symlink /b /a
+1 begin",
+        whole: "1 lstat /a
+1 readlink /a",
+        told: None,
+        refused: &["", "1 lstat /a"],
     },
     Course {
         act: Act::Resize,
         before: "1 open /a RDWR,CREAT
 1 write 0 first
 1 close 0",
-        whole: "1 stat /a
+        whole: "1 lstat /a
 1 truncate /a 3
-1 stat /a",
+1 lstat /a",
         told: None,
-        refused: &["1 stat /a"],
+        refused: &["1 lstat /a"],
     },
     Course {
         act: Act::Resize,
@@ -70,14 +87,14 @@ static OBJECTS: [Course; 9] = [
 1 write 0 first
 1 close 0
 1 begin",
-        whole: "1 stat /a
+        whole: "1 lstat /a
 1 truncate /a 3
-1 stat /a",
+1 lstat /a",
         told: None,
         refused: &[
             "",
-            "1 stat /a",
-            "1 stat /a
+            "1 lstat /a",
+            "1 lstat /a
 1 truncate /a 3",
         ],
     },
@@ -86,7 +103,7 @@ static OBJECTS: [Course; 9] = [
         before: "1 open /a RDWR,CREAT
 1 write 0 first",
         whole: "1 ftruncate 0 3
-1 stat /b
+1 lstat /b
 1 fstat 0",
         told: None,
         refused: &[""],
@@ -99,14 +116,104 @@ static OBJECTS: [Course; 9] = [
 1 begin
 1 open /a RDWR",
         whole: "1 ftruncate 0 3
-1 stat /b
+1 lstat /b
 1 fstat 0",
         told: None,
         refused: &[
             "",
             "1 ftruncate 0 3",
             "1 ftruncate 0 3
-1 stat /b",
+1 lstat /b",
+        ],
+    },
+    Course {
+        act: Act::Update,
+        before: "1 open /a RDWR,CREAT
+1 write 0 first
+1 close 0",
+        whole: "1 lstat /a
+1 truncate /a 3
+1 chown /a 1 2
+1 chmod /a 700
+1 lstat /a",
+        told: None,
+        refused: &[
+            "1 lstat /a",
+            "1 lstat /a
+1 truncate /a 3",
+            "1 lstat /a
+1 truncate /a 3
+1 chown /a 1 2",
+        ],
+    },
+    Course {
+        act: Act::Update,
+        before: "1 open /a RDWR,CREAT
+1 write 0 first
+1 close 0
+1 begin",
+        whole: "1 lstat /a
+1 truncate /a 3
+1 chown /a 1 2
+1 chmod /a 700
+1 lstat /a",
+        told: None,
+        refused: &[
+            "",
+            "1 lstat /a",
+            "1 lstat /a
+1 truncate /a 3",
+            "1 lstat /a
+1 truncate /a 3
+1 chown /a 1 2",
+            "1 lstat /a
+1 truncate /a 3
+1 chown /a 1 2
+1 chmod /a 700",
+        ],
+    },
+    Course {
+        act: Act::UpdateOpen,
+        before: "1 open /a RDWR,CREAT
+1 write 0 first",
+        whole: "1 ftruncate 0 3
+1 fchown 0 1 2
+1 fchmod 0 700
+1 lstat /b
+1 fstat 0",
+        told: None,
+        refused: &[
+            "",
+            "1 ftruncate 0 3",
+            "1 ftruncate 0 3
+1 fchown 0 1 2",
+        ],
+    },
+    Course {
+        act: Act::UpdateOpen,
+        before: "1 open /a RDWR,CREAT
+1 write 0 first
+1 close 0
+1 begin
+1 open /a RDWR",
+        whole: "1 ftruncate 0 3
+1 fchown 0 1 2
+1 fchmod 0 700
+1 lstat /b
+1 fstat 0",
+        told: None,
+        refused: &[
+            "",
+            "1 ftruncate 0 3",
+            "1 ftruncate 0 3
+1 fchown 0 1 2",
+            "1 ftruncate 0 3
+1 fchown 0 1 2
+1 fchmod 0 700",
+            "1 ftruncate 0 3
+1 fchown 0 1 2
+1 fchmod 0 700
+1 lstat /b",
         ],
     },
 ];

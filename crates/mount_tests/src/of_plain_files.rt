@@ -70,7 +70,7 @@ write /a first",
     },
 ];
 
-static FILES: [Row; 12] = [
+static FILES: [Row; 14] = [
     Row {
         before: "create /a
 write /a first",
@@ -106,6 +106,17 @@ write /a first",
 write /a first
 release /a",
         ask: "length /a 2",
+        is_refused: true,
+    },
+    Row {
+        before: "create /a
+write /a first",
+        ask: "rights /a 448",
+        is_refused: true,
+    },
+    Row {
+        before: "mkdir /a",
+        ask: "rights /a 448",
         is_refused: true,
     },
     Row {

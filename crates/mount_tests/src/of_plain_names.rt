@@ -2,7 +2,7 @@
 use crate::refused::{Row, check_all};
 use kernel::Kernel;
 
-static NAMES: [Row; 11] = [
+static NAMES: [Row; 15] = [
     Row {
         before: "mkdir /a",
         ask: "lookup /a",
@@ -58,9 +58,29 @@ static NAMES: [Row; 11] = [
         ask: "mknod /a",
         is_refused: true,
     },
+    Row {
+        before: "",
+        ask: "mkfifo /a",
+        is_refused: true,
+    },
+    Row {
+        before: "",
+        ask: "symlink /a a-target-with-a-longer-name-here",
+        is_refused: true,
+    },
+    Row {
+        before: "symlink /a b",
+        ask: "readlink /a",
+        is_refused: true,
+    },
+    Row {
+        before: "symlink /a b",
+        ask: "getattr /a",
+        is_refused: true,
+    },
 ];
 
-static MOVES: [Row; 10] = [
+static MOVES: [Row; 12] = [
     Row {
         before: "mkdir /a
 create /a/b",
@@ -122,6 +142,17 @@ write /b second",
         before: "mkdir /a
 mknod /a/b",
         ask: "move /a /b",
+        is_refused: true,
+    },
+    Row {
+        before: "symlink /a target
+mknod /b",
+        ask: "rename /a /b",
+        is_refused: true,
+    },
+    Row {
+        before: "symlink /a target",
+        ask: "link /a /b",
         is_refused: true,
     },
 ];

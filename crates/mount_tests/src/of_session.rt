@@ -4,7 +4,7 @@ ghost use Rattle.std.specs.Prelude.{None};
 
 use crate::messages::{COUNT, is_answered, message};
 use byteorder::{ByteOrder, LittleEndian};
-use fuse::{Reply, Request};
+use fuse::{Reply, Request, Time};
 use heap::Heap;
 use ids::Limits;
 use kernel::Kernel;
@@ -32,8 +32,8 @@ impl<K: Machine> Service for Tree<K> {
 
     ghost serves = { λ _ _ _ _. ⊤ };
 
-    fn serve(&mut self, request: Request) -> Option<Reply> {
-        self.server.serve(request)
+    fn serve(&mut self, request: Request, now: Time) -> Option<Reply> {
+        self.server.serve(request, now)
     }
 }
 
@@ -81,6 +81,13 @@ impl Channel for Wire {
         buffer[..length].copy_from_slice(message.as_slice());
         self.next = self.next.wrapping_add(1);
         Ok(length)
+    }
+
+    fn now(&mut self) -> Time {
+        Time {
+            seconds: self.next as u64,
+            nanoseconds: 0,
+        }
     }
 
     fn send(&mut self, message: &[u8]) {

@@ -2,7 +2,7 @@
 use crate::refused::{Row, check_all};
 use kernel::Kernel;
 
-static NAMES: [Row; 8] = [
+static NAMES: [Row; 12] = [
     Row {
         before: "mkdir /.tx/v
 mkdir /.tx/v/a",
@@ -46,6 +46,28 @@ mkdir /.tx/v/a",
     Row {
         before: "mkdir /.tx/v",
         ask: "mknod /.tx/v/a",
+        is_refused: true,
+    },
+    Row {
+        before: "mkdir /.tx/v",
+        ask: "mkfifo /.tx/v/a",
+        is_refused: true,
+    },
+    Row {
+        before: "mkdir /.tx/v",
+        ask: "symlink /.tx/v/a a-target-with-a-longer-name-here",
+        is_refused: true,
+    },
+    Row {
+        before: "mkdir /.tx/v
+symlink /.tx/v/a b",
+        ask: "readlink /.tx/v/a",
+        is_refused: true,
+    },
+    Row {
+        before: "mkdir /.tx/v
+symlink /.tx/v/a b",
+        ask: "getattr /.tx/v/a",
         is_refused: true,
     },
 ];

@@ -8,8 +8,9 @@ use Rattle.course.specs.Hands.{Held}
 use Rattle.mount_requests.specs.Requests.{IsAnswered}
 use Rattle.mount_requests.specs.Seen.{Seen}
 use Rattle.mount_requests.specs.declared.failure.Failure.{Failure}
+use Rattle.mount_requests.specs.declared.requests.Caller.{Caller}
 
-pub answered_as : (s later : Seen) (node : ℕ) (operation : Operation) (r : Result Reply Failure) {p pid : ℕ} {at old : Shown} {h k : Held} → p ≡ pid → at ≡ old → h ≡ k → IsAnswered s later p node operation at k.shown r → IsAnswered s later pid node operation old h.shown r
-answered_as s later node operation r {p} {pid} {at} {old} {h} {k} is same hand answers =
-    subst (λ (x : Held). IsAnswered s later pid node operation old x.shown r) (sym hand)
-    (subst (λ (x : Shown). IsAnswered s later pid node operation x k.shown r) same (subst (λ (q : ℕ). IsAnswered s later q node operation at k.shown r) is answers))
+pub answered_as : (s later : Seen) (who : Caller) (operation : Operation) (r : Result Reply Failure) {p pid : ℕ} {at old : Shown} {h k : Held} → p ≡ pid → at ≡ old → h ≡ k → IsAnswered s later p who operation at k.shown r → IsAnswered s later pid who operation old h.shown r
+answered_as s later who operation r {p} {pid} {at} {old} {h} {k} is same hand answers =
+    subst (λ (x : Held). IsAnswered s later pid who operation old x.shown r) (sym hand)
+    (subst (λ (x : Shown). IsAnswered s later pid who operation x k.shown r) same (subst (λ (q : ℕ). IsAnswered s later q who operation at k.shown r) is answers))

@@ -9,6 +9,7 @@ use Rattle.mount_tables.specs.Processes.{HasFree}
 use Rattle.mount_requests.specs.Requests.{IsAnswered}
 use Rattle.mount_requests.specs.Seen.{Seen}
 use Rattle.mount_requests.specs.declared.failure.Failure.{Failure}
+use Rattle.mount_requests.specs.declared.requests.Caller.{Caller}
 use Rattle.mounted.specs.Served.{IsHolder, IsLacking, IsReady, ServesPlain, chosen}
 use Rattle.mounted.specs.Served.IsHolder.{Free}
 use Rattle.mounted.specs.Served.ServesPlain.{Lacking, Ready, Refused}
@@ -28,11 +29,11 @@ is_err (Err y) h = ap Err h
 is_err (Ok x) h = absurd h
 
 -- no process could be had
-pub without_process : (s later : Seen) (node : ℕ) (operation : Operation) {e : Failure} {old new : Shown} (r : Result Reply Failure) → IsErrAnd r (λ y. y ≡ e) → chosen s node operation ≡ None → IsLacking s later old new e → ServesPlain s later node operation old new r
-without_process s later node operation r is none (inl h) = Refused h.0 h.1 (is_err r is ∙ ap Err h.2)
-without_process s later node operation r is none (inr h) = Lacking h.0 none h.1 h.2 (is_err r is ∙ ap Err h.3)
+pub without_process : (s later : Seen) (who : Caller) (operation : Operation) {e : Failure} {old new : Shown} (r : Result Reply Failure) → IsErrAnd r (λ y. y ≡ e) → chosen s who.node operation ≡ None → IsLacking s later old new e → ServesPlain s later who operation old new r
+without_process s later who operation r is none (inl h) = Refused h.0 h.1 (is_err r is ∙ ap Err h.2)
+without_process s later who operation r is none (inr h) = Lacking h.0 none h.1 h.2 (is_err r is ∙ ap Err h.3)
 
 -- or the request was answered by it
-pub by_process : (s known later : Seen) (node pid by : ℕ) (operation : Operation) {old mid at new : Shown} (r : Result Reply Failure) → by ≡ pid → at ≡ mid → IsReady (chosen s node operation) s old pid known mid → IsAnswered known later by node operation at new r → ServesPlain s later node operation old new r
-by_process s known later node pid by operation {old} {mid} {at} {new} r is same ready h =
-    Ready pid known mid ready (subst (λ (x : Shown). IsAnswered known later pid node operation x new r) same (subst (λ (p : ℕ). IsAnswered known later p node operation at new r) is h))
+pub by_process : (s known later : Seen) (who : Caller) (pid by : ℕ) (operation : Operation) {old mid at new : Shown} (r : Result Reply Failure) → by ≡ pid → at ≡ mid → IsReady (chosen s who.node operation) s old pid known mid → IsAnswered known later by who operation at new r → ServesPlain s later who operation old new r
+by_process s known later who pid by operation {old} {mid} {at} {new} r is same ready h =
+    Ready pid known mid ready (subst (λ (x : Shown). IsAnswered known later pid who operation x new r) same (subst (λ (p : ℕ). IsAnswered known later p who operation at new r) is h))

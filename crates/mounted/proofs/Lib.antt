@@ -13,3 +13,5 @@ mod First
 mod Leaving
 mod Asking
 mod Outcomes
+mod Apart
+mod Setting

@@ -16,11 +16,15 @@ use Rattle.mount_tables.specs.declared.processes.Role.TheVariants.{Holder, Idle,
 use Rattle.mount_tables.specs.declared.views.State.{State}
 use Rattle.mount_tables.specs.declared.views.State.TheVariants.{Live, Aborted, Committed, GivenUp}
 use Rattle.mount_tables.specs.declared.views.View.{View}
+use Rattle.fuse.specs.declared.request.Time.{Time}
+use Rattle.view_times.specs.Known.{Known}
+use Rattle.mount_requests.specs.Later.{with_aborted}
 use Rattle.mount_requests.specs.Seen.{Seen}
+use Rattle.mount_requests.specs.Times.{at_time}
 use Rattle.mount_requests.specs.declared.failure.Failure.{Failure}
 use Rattle.mount_requests.specs.declared.failure.Failure.TheVariants as failure
 use Rattle.mounted.specs.declared.control.Order.{Order}
-use Rattle.mounted.specs.Controls.{ended, state_by, with_roles}
+use Rattle.mounted.specs.Controls.{ended, state_by, times_by, with_roles}
 use Rattle.mount_tables.specs.Files.{closed_once, key_of, unlinked}
 use Rattle.mount_requests.specs.Found.{file_at}
 use Rattle.mounted.specs.Served.{closed_by, kept_by, less_held, noted, released_by}
@@ -102,15 +106,19 @@ aborted_there views why number (Some view) is = by view.state
     by Committed = there_same refl
     by GivenUp = there_same refl
 
--- all but views stands
-views_kept : (s : Seen) (views : Views) {v w : Shown} → AreThere s.views views → Stand v w → StaysSound s v (record s { views = views }) w
-views_kept s views {v} {w} there stand was = sound_kept s (record s { views = views }) v w was there refl (kept_is refl) stand
+-- all but views and times stands
+views_kept : (s : Seen) (views : Views) (times : Known) {v w : Shown} → AreThere s.views views → Stand v w → StaysSound s v (record s { views = views; times = times }) w
+views_kept s views times {v} {w} there stand was = sound_kept s (record s { views = views; times = times }) v w was there refl (kept_is refl) stand
 
-pub sound_standing : (s : Seen) (state : State) (number : ℕ) {v w : Shown} → Stand v w → StaysSound s v (record s { views = standing state number (map.get s.views number) s.views }) w
-sound_standing s state number stand = views_kept s _ (standing_there s.views state number (map.get s.views number) refl) stand
+pub sound_standing : (s : Seen) (state : State) (number : ℕ) (times : Known) {v w : Shown} → Stand v w → StaysSound s v (record s { views = standing state number (map.get s.views number) s.views; times = times }) w
+sound_standing s state number times stand = views_kept s _ times (standing_there s.views state number (map.get s.views number) refl) stand
 
-pub sound_aborted : (s : Seen) (why : Why) (number : ℕ) {v w : Shown} → Stand v w → StaysSound s v (record s { views = aborted why number (map.get s.views number) s.views }) w
-sound_aborted s why number stand = views_kept s _ (aborted_there s.views why number (map.get s.views number) refl) stand
+pub sound_aborted : (s : Seen) (why : Why) (number : ℕ) {v w : Shown} → Stand v w → StaysSound s v (with_aborted s number why) w
+sound_aborted s why number stand = views_kept s _ _ (aborted_there s.views why number (map.get s.views number) refl) stand
+
+-- the time of a request is no part of it
+pub sound_at : (now : Time) (s u : Seen) {v : Shown} → u ≡ at_time now s → IsSound s v → IsSound u v
+sound_at now s u {v} is was = subst (λ (z : Seen). IsSound z v) (sym is) (sound_kept s (at_time now s) v v was (there_same refl) refl (kept_is refl) (stand_same v))
 
 pub roles_made_as : {roles known : Roles} {v w : Shown} (level pid : ℕ) (role : Role) → level ≤ 7 → IsFor level role → IsChild v (level + 1) pid w → Stand v w → known ≡ map.insert roles pid role → RolesStaySound roles v known w
 roles_made_as {roles} {known} {v} {w} level pid role low for child stand is = subst (λ (r : Roles). RolesStaySound roles v r w) (sym is) (roles_made level pid role low for child stand)
@@ -152,7 +160,7 @@ sound_closed s handle file (Err fault.Stale) stand = sound_left s handle (file_a
 sound_closed s handle file (Err fault.Unexpected) stand = sound_left s handle (file_at s handle) stand
 
 pub sound_ended : (s : Seen) (view : ℕ) (order : Order) (r : Result (Unit {0}) Fault) {v w : Shown} → Stand v w → StaysSound s v (ended s view order r) w
-sound_ended s view order (Ok done) stand = sound_standing s (state_by order) view stand
+sound_ended s view order (Ok done) stand = sound_standing s (state_by order) view (times_by order view s.times) stand
 sound_ended s view order (Err (fault.Aborted why)) stand = sound_aborted s why view stand
 sound_ended s view order (Err (fault.Refused e)) stand = sound_same refl stand
 sound_ended s view order (Err fault.Busy) stand = sound_same refl stand

@@ -17,6 +17,7 @@ use Rattle.mount_requests.specs.Failures.{and_then, found_or}
 use Rattle.mount_requests.specs.Found.{stepper_at, stepper_by, stepper_in, stepper_of}
 use Rattle.mount_requests.specs.Seen.{Seen}
 use Rattle.mount_requests.specs.declared.failure.Failure.{Failure}
+use Rattle.mount_requests.specs.declared.requests.Caller.{Caller}
 use Rattle.mount_requests.specs.declared.tables.Stepper.{Stepper}
 use Rattle.mounted.specs.Served.{ServesBy, ServesIn, ServesPlain, ServesTree, ServesView, ToldBy, told}
 use Rattle.mounted.specs.Sound.{StaysSound}
@@ -54,7 +55,7 @@ other s view st true is apart h = absurd cc
 other s view st false is apart h = of_view s view (map.get s.views view) st refl (h ∙ ap (λ (b : Bool). if b then Ok (record { view = 0; pid = 1 }) else stepper_of view (map.get s.views view)) is)
 
 -- what is told of a node below this view
-steps_at : (s : Seen) (node view : ℕ) (st : Stepper) → view_of (root_of s.nodes node) ≡ Some view → view ≢ 0 → Ok st ≡ stepper_at s node → Steps s view st
+pub steps_at : (s : Seen) (node view : ℕ) (st : Stepper) → view_of (root_of s.nodes node) ≡ Some view → view ≢ 0 → Ok st ≡ stepper_at s node → Steps s view st
 steps_at s node view st is apart h =
     other s view st (view == 0) refl (ne_eqb view 0 apart)
     (h ∙ ap (λ (o : Option ℕ). and_then (found_or ESTALE o) (stepper_in s)) is)
@@ -65,30 +66,30 @@ in_view s node st h since tree view is apart = inr (st.pid, (steps_at s node vie
 
 -- ---- how a request is served then
 
-module _ (s later : Seen) (node : ℕ) (operation : Operation) {old new : Shown} where
-  pub refuses : {e : Failure} {answer : Reply} → Err e ≡ stepper_at s node → new ≡ old → later ≡ s → answer ≡ told (Err e) → ToldBy (ServesTree s later node operation old new) answer
+module _ (s later : Seen) (who : Caller) (operation : Operation) {old new : Shown} where
+  pub refuses : {e : Failure} {answer : Reply} → Err e ≡ stepper_at s who.node → new ≡ old → later ≡ s → answer ≡ told (Err e) → ToldBy (ServesTree s later who operation old new) answer
   refuses {e} h same known tells = record {
     outcome = Err e;
-    served = subst (λ (z : Result Stepper Failure). ServesBy z s later node operation old new (Err e)) h (refl, same, known);
+    served = subst (λ (z : Result Stepper Failure). ServesBy z s later who operation old new (Err e)) h (refl, same, known);
     is = tells;
   }
 
-  pub serves_plain : (st : Stepper) (r : Result Reply Failure) {answer : Reply} → Ok st ≡ stepper_at s node → (st.view == 0) ≡ true → ServesPlain s later node operation old new r → answer ≡ told r → ToldBy (ServesTree s later node operation old new) answer
+  pub serves_plain : (st : Stepper) (r : Result Reply Failure) {answer : Reply} → Ok st ≡ stepper_at s who.node → (st.view == 0) ≡ true → ServesPlain s later who operation old new r → answer ≡ told r → ToldBy (ServesTree s later who operation old new) answer
   serves_plain st r h is served tells = record {
     outcome = r;
-    served = subst (λ (z : Result Stepper Failure). ServesBy z s later node operation old new r) h (subst (λ (b : Bool). ServesIn b s later st node operation old new r) (sym is) served);
+    served = subst (λ (z : Result Stepper Failure). ServesBy z s later who operation old new r) h (subst (λ (b : Bool). ServesIn b s later st who operation old new r) (sym is) served);
     is = tells;
   }
 
-  pub serves_view : (st : Stepper) {answer : Reply} → Ok st ≡ stepper_at s node → (st.view == 0) ≡ false → ToldBy (ServesView s later st.view st.pid node operation old new) answer → ToldBy (ServesTree s later node operation old new) answer
+  pub serves_view : (st : Stepper) {answer : Reply} → Ok st ≡ stepper_at s who.node → (st.view == 0) ≡ false → ToldBy (ServesView s later st.view st.pid who operation old new) answer → ToldBy (ServesTree s later who operation old new) answer
   serves_view st h is t = record {
     outcome = t.outcome;
-    served = subst (λ (z : Result Stepper Failure). ServesBy z s later node operation old new t.outcome) h (subst (λ (b : Bool). ServesIn b s later st node operation old new t.outcome) (sym is) t.served);
+    served = subst (λ (z : Result Stepper Failure). ServesBy z s later who operation old new t.outcome) h (subst (λ (b : Bool). ServesIn b s later st who operation old new t.outcome) (sym is) t.served);
     is = t.is;
   }
 
   -- processes and views stay sound
-  pub view_sound : (view pid : ℕ) {answer : Reply} → ToldBy (ServesView s later view pid node operation old new) answer → Stand old new → StaysSound s old later new
+  pub view_sound : (view pid : ℕ) {answer : Reply} → ToldBy (ServesView s later view pid who operation old new) answer → Stand old new → StaysSound s old later new
   view_sound view pid t stand =
-      sound_then (keeps_sound (answered_keeps s t.served.served pid node operation old new t.outcome t.served.answers) stand)
+      sound_then (keeps_sound (answered_keeps s t.served.served pid who operation old new t.outcome t.served.answers) stand)
       (sound_into t.served.noted_is (sound_noted t.served.served view t.outcome (stand_same new)))

@@ -27,16 +27,18 @@ use Rattle.course.specs.declared.fault.Fault.{Fault}
 use Rattle.course.specs.declared.fault.Fault.TheVariants as fault
 use Rattle.mount_tables.specs.Numbers.{control_node, root_node}
 use Rattle.mount_tables.specs.Rows.{replaced}
-use Rattle.mount_tables.specs.Views.{aborted, standing}
+use Rattle.mount_tables.specs.Views.{standing}
 use Rattle.mount_tables.specs.declared.views.View.{View}
 use Rattle.mount_tables.specs.declared.open_files.OpenFile.{OpenFile}
 use Rattle.mount_tables.specs.declared.processes.Role.{Role}
 use Rattle.mount_tables.specs.declared.processes.Role.TheVariants.{Idle, Of}
 use Rattle.mount_tables.specs.declared.views.State.{State}
 use Rattle.mount_tables.specs.declared.views.State.TheVariants.{Live, Aborted, Committed, GivenUp}
+use Rattle.view_times.specs.Known.{Known, aborted, committed}
 use Rattle.mount_requests.specs.Answers.{Says}
 use Rattle.mount_requests.specs.Failures.{and_then, error, failure_of, found_or}
 use Rattle.mount_requests.specs.Found.{stepper_of}
+use Rattle.mount_requests.specs.Later.{with_aborted}
 use Rattle.mount_requests.specs.Requests.{Tells, with_folder, with_names}
 use Rattle.mount_requests.specs.Seen.{Seen}
 use Rattle.mount_requests.specs.Told.{ShowsHandle}
@@ -203,8 +205,8 @@ pub record IsWithoutFiles (s later : Seen) (view : ℕ) : Type 0 where
 abbrev pub OnlyFiles : Seen → Seen → Type 0
 OnlyFiles s later = later ≡ record s { files = later.files; handles = later.handles }
 
--- The view and its name are known no more. Its process waits for a transaction again, or serves nobody
--- where something of it is open still.
+-- The view and its name are known no more, nor what it noted of times, which a commit has taken before.
+-- Its process waits for a transaction again, or serves nobody where something of it is open still.
 pub record IsWithoutView (s later : Seen) (name : List ℕ) (l : Leaving) (all : Bool) : Type 0 where
   pub views : later.views ≡ map.remove s.views l.number
   pub names : later.names ≡ map.remove s.names name
@@ -212,6 +214,7 @@ pub record IsWithoutView (s later : Seen) (name : List ℕ) (l : Leaving) (all :
   pub files : IsWithoutFiles s later l.number
   pub nodes : later.nodes ≡ s.nodes
   pub folders : (later.folders ≡ s.folders) × (later.next_folder ≡ s.next_folder)
+  pub times : (later.times ≡ aborted s.times l.number) × (later.time ≡ s.time)
   pub roles : later.roles
       ≡ (if all then replaced l.pid (Idle l.level) (map.get s.roles l.pid) s.roles else s.roles)
 
@@ -309,11 +312,6 @@ abbrev pub ShowsText : Option View → ℕ → ℕ → Result Reply Failure → 
 ShowsText view offset size r =
     (r ≡ Ok (reply.Data (take size (drop offset (text_of view))))) ⊎ (r ≡ Err (error errno.ENOMEM))
 
--- the cause of an abort is known of the view from then on
-abbrev pub with_aborted : Seen → ℕ → Why → Seen
-with_aborted s view why =
-    record s { views = aborted why view (map.get s.views view) s.views }
-
 -- the process of a view whose transaction goes on
 abbrev pub live_by : State → ℕ → Option ℕ
 live_by Live pid = Some pid
@@ -370,11 +368,19 @@ abbrev pub state_by : Order → State
 state_by End = Committed
 state_by Abort = GivenUp
 
+-- What the view has noted of times is everybody's behind an end: of two times the later one, but one that
+-- was set as it was set. Behind an abort it is gone.
+abbrev pub times_by : Order → ℕ → Known → Known
+times_by End view k = committed k view
+times_by Abort view k = aborted k view
+
 -- The transaction is over then: by the order, or by an abort. Where the order failed otherwise it goes
 -- on.
 abbrev pub ended : Seen → ℕ → Order → Result (Unit {0}) Fault → Seen
-ended s view order (Ok done) =
-    record s { views = standing (state_by order) view (map.get s.views view) s.views }
+ended s view order (Ok done) = record s {
+  views = standing (state_by order) view (map.get s.views view) s.views;
+  times = times_by order view s.times;
+}
 ended s view order (Err (fault.Aborted why)) = with_aborted s view why
 ended s view order (Err e) = s
 

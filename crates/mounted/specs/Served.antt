@@ -32,12 +32,14 @@ use Rattle.mount_tables.specs.declared.views.State.{State}
 use Rattle.mount_tables.specs.declared.views.State.TheVariants as state
 use Rattle.mount_requests.specs.Failures.{error, failure_of}
 use Rattle.mount_requests.specs.Found.{file_at, handle_at, stepper_at}
+use Rattle.mount_requests.specs.Later.{with_aborted}
 use Rattle.mount_requests.specs.Requests.{IsAnswered, Tells}
 use Rattle.mount_requests.specs.Seen.{Seen}
 use Rattle.mount_requests.specs.declared.failure.Failure.{Failure}
 use Rattle.mount_requests.specs.declared.failure.Failure.TheVariants as failure
+use Rattle.mount_requests.specs.declared.requests.Caller.{Caller}
 use Rattle.mount_requests.specs.declared.tables.Stepper.{Stepper}
-use Rattle.mounted.specs.Controls.{ServesControl, ServesTransactions, with_aborted}
+use Rattle.mounted.specs.Controls.{ServesControl, ServesTransactions}
 
 -- ---- the plain tree
 
@@ -58,9 +60,9 @@ plain_file s node = option_and_then (file_at s) (handle_at s 0 node)
 -- The process by which a request steps in the plain tree: one that has the file open, or the first
 -- one. Where a file is to be opened it is any that has a descriptor free.
 abbrev pub chosen : Seen → ℕ → Operation → Option ℕ
-chosen s node (asked.Open flags) =
+chosen s node (asked.Open flags how) =
     option_map (λ (f : OpenFile). process_by s (Some f)) (plain_file s node)
-chosen s node (asked.Create name flags mode) = None
+chosen s node (asked.Create name flags mode how) = None
 chosen s node (asked.MkNod name mode) = None
 chosen s node (asked.GetAttr handle) = Some (process_by s (plain_file s node))
 chosen s node (asked.SetAttr changes) = Some (process_by s (plain_file s node))
@@ -91,15 +93,16 @@ abbrev pub IsReady : Option ℕ → Seen → Shown → ℕ → Seen → Shown �
 IsReady (Some process) s old pid known new = (pid ≡ process) × (known ≡ s) × (new ≡ old)
 IsReady None s old pid known new = IsHolder s old pid known new
 
-pub data ServesPlain (s later : Seen) (node : ℕ) (operation : Operation) (old new : Shown)
+pub data ServesPlain (s later : Seen) (who : Caller) (operation : Operation) (old new : Shown)
     (result : Result Reply Failure) : Type 0 where
   Refused : new ≡ old → later ≡ s → result ≡ Err (error errno.ENOMEM)
-      → ServesPlain s later node operation old new result
-  Lacking : (e : Fault) → chosen s node operation ≡ None → Ran old (forking 1) (Err e) new → later ≡ s
-      → result ≡ Err (failure_of e) → ServesPlain s later node operation old new result
-  Ready : (pid : ℕ) (known : Seen) (mid : Shown) → IsReady (chosen s node operation) s old pid known mid
-      → IsAnswered known later pid node operation mid new result
-      → ServesPlain s later node operation old new result
+      → ServesPlain s later who operation old new result
+  Lacking : (e : Fault) → chosen s who.node operation ≡ None → Ran old (forking 1) (Err e) new
+      → later ≡ s → result ≡ Err (failure_of e) → ServesPlain s later who operation old new result
+  Ready : (pid : ℕ) (known : Seen) (mid : Shown)
+      → IsReady (chosen s who.node operation) s old pid known mid
+      → IsAnswered known later pid who operation mid new result
+      → ServesPlain s later who operation old new result
 
 -- ---- all trees
 
@@ -109,39 +112,40 @@ noted s view (Err (failure.Aborted why)) = with_aborted s view why
 noted s view (Err (failure.Error e)) = s
 noted s view (Ok r) = s
 
-pub record ServesView (s later : Seen) (view pid node : ℕ) (operation : Operation) (old new : Shown)
-    (r : Result Reply Failure) : Type 0 where
+pub record ServesView (s later : Seen) (view pid : ℕ) (who : Caller) (operation : Operation)
+    (old new : Shown) (r : Result Reply Failure) : Type 0 where
   pub served : Seen
-  pub answers : IsAnswered s served pid node operation old new r
+  pub answers : IsAnswered s served pid who operation old new r
   pub noted_is : later ≡ noted served view r
 
 -- In the plain tree, or by the process of a view's transaction.
-abbrev pub ServesIn : Bool → Seen → Seen → Stepper → ℕ → Operation → Shown → Shown
+abbrev pub ServesIn : Bool → Seen → Seen → Stepper → Caller → Operation → Shown → Shown
     → Result Reply Failure → Type 0
-ServesIn true s later st node operation old new r =
-    ServesPlain s later node operation old new r
-ServesIn false s later st node operation old new r =
-    ServesView s later st.view st.pid node operation old new r
+ServesIn true s later st who operation old new r =
+    ServesPlain s later who operation old new r
+ServesIn false s later st who operation old new r =
+    ServesView s later st.view st.pid who operation old new r
 
-abbrev pub ServesBy : Result Stepper Failure → Seen → Seen → ℕ → Operation → Shown → Shown
+abbrev pub ServesBy : Result Stepper Failure → Seen → Seen → Caller → Operation → Shown → Shown
     → Result Reply Failure → Type 0
-ServesBy (Err e) s later node operation old new r = Tells (Err e) s later old new r
-ServesBy (Ok st) s later node operation old new r =
-    ServesIn (st.view == 0) s later st node operation old new r
+ServesBy (Err e) s later who operation old new r = Tells (Err e) s later old new r
+ServesBy (Ok st) s later who operation old new r =
+    ServesIn (st.view == 0) s later st who operation old new r
 
 -- A request about a node: where nobody may step there it is refused.
-abbrev pub ServesTree : Seen → Seen → ℕ → Operation → Shown → Shown → Result Reply Failure → Type 0
-ServesTree s later node operation old new r =
-    ServesBy (stepper_at s node) s later node operation old new r
+abbrev pub ServesTree : Seen → Seen → Caller → Operation → Shown → Shown → Result Reply Failure
+    → Type 0
+ServesTree s later who operation old new r =
+    ServesBy (stepper_at s who.node) s later who operation old new r
 
 -- ---- requests about nodes
 
-abbrev pub ServesAt : Class → Seen → Seen → ℕ → Operation → Shown → Shown → Result Reply Failure
+abbrev pub ServesAt : Class → Seen → Seen → Caller → Operation → Shown → Shown → Result Reply Failure
     → Type 0
-ServesAt Tree s later node operation old new r = ServesTree s later node operation old new r
-ServesAt Transactions s later node operation old new r =
+ServesAt Tree s later who operation old new r = ServesTree s later who operation old new r
+ServesAt Transactions s later who operation old new r =
     ServesTransactions s later operation old new r
-ServesAt (Control view) s later node operation old new r =
+ServesAt (Control view) s later who operation old new r =
     ServesControl s later view operation old new r
 
 -- ---- files that are closed
@@ -245,17 +249,17 @@ IsStatus (Ok (reply.StatFs status)) = Unit {0}
 IsStatus _ = ⊥
 
 -- Requests that are about no node make no step; a release may close a file.
-abbrev pub Serves : Seen → Seen → ℕ → Operation → Shown → Shown → Result Reply Failure → Type 0
-Serves s later node (asked.Init major minor ahead flags) old new r =
+abbrev pub Serves : Seen → Seen → Caller → Operation → Shown → Shown → Result Reply Failure → Type 0
+Serves s later who (asked.Init major minor ahead flags) old new r =
     IsBeginning r × (new ≡ old) × (later ≡ s)
-Serves s later node asked.Destroy old new r = Tells (Ok reply.Empty) s later old new r
-Serves s later node asked.StatFs old new r = IsStatus r × (new ≡ old) × (later ≡ s)
-Serves s later node (asked.Flush handle) old new r = Tells (Ok reply.Empty) s later old new r
-Serves s later node (asked.Fsync handle) old new r = Tells (Ok reply.Empty) s later old new r
-Serves s later node (asked.Release handle flags) old new r = Releases s later handle old new r
-Serves s later node (asked.ReleaseDir handle) old new r =
+Serves s later who asked.Destroy old new r = Tells (Ok reply.Empty) s later old new r
+Serves s later who asked.StatFs old new r = IsStatus r × (new ≡ old) × (later ≡ s)
+Serves s later who (asked.Flush handle) old new r = Tells (Ok reply.Empty) s later old new r
+Serves s later who (asked.Fsync handle) old new r = Tells (Ok reply.Empty) s later old new r
+Serves s later who (asked.Release handle flags) old new r = Releases s later handle old new r
+Serves s later who (asked.ReleaseDir handle) old new r =
     Tells (Ok reply.Empty) (without_folder s handle) later old new r
-Serves s later node operation old new r = ServesAt (class_of node) s later node operation old new r
+Serves s later who operation old new r = ServesAt (class_of who.node) s later who operation old new r
 
 -- the reply to an outcome
 abbrev pub told : Result Reply Failure → Reply
@@ -270,28 +274,28 @@ pub record ToldBy (Served : Result Reply Failure → Type 0) (answer : Reply) : 
   pub is : answer ≡ told outcome
 
 -- A request was served, and this is told.
-pub record Answered (s later : Seen) (node : ℕ) (operation : Operation) (old new : Shown)
+pub record Answered (s later : Seen) (who : Caller) (operation : Operation) (old new : Shown)
     (answer : Option Reply) : Type 0 where
   pub outcome : Result Reply Failure
-  pub serves : Serves s later node operation old new outcome
+  pub serves : Serves s later who operation old new outcome
   pub tells : answer ≡ Some (told outcome)
 
 -- What is forgotten of nodes has no answer, nor has the wish that a request ends early.
-abbrev pub IsToldOf : Seen → Seen → ℕ → Operation → Shown → Shown → Option Reply → Type 0
-IsToldOf s later node (asked.Forget lookups) old new answer =
-    (answer ≡ None) × (new ≡ old) × (later ≡ with_forget s node lookups)
-IsToldOf s later node (asked.BatchForget forgets) old new answer =
+abbrev pub IsToldOf : Seen → Seen → Caller → Operation → Shown → Shown → Option Reply → Type 0
+IsToldOf s later who (asked.Forget lookups) old new answer =
+    (answer ≡ None) × (new ≡ old) × (later ≡ with_forget s who.node lookups)
+IsToldOf s later who (asked.BatchForget forgets) old new answer =
     (answer ≡ None) × (new ≡ old) × (later ≡ with_forgets s forgets)
-IsToldOf s later node (asked.Interrupt unique) old new answer =
+IsToldOf s later who (asked.Interrupt unique) old new answer =
     (answer ≡ None) × (new ≡ old) × (later ≡ s)
-IsToldOf s later node operation old new answer =
-    Answered s later node operation old new answer
+IsToldOf s later who operation old new answer =
+    Answered s later who operation old new answer
 
 -- The same, and then what was done is forgotten, unless 2^63 entries or more were made. So a session
 -- goes on as long as there is anything to forget.
-pub record IsServed (s later : Seen) (node : ℕ) (operation : Operation) (old new : Shown)
+pub record IsServed (s later : Seen) (who : Caller) (operation : Operation) (old new : Shown)
     (answer : Option Reply) : Type 0 where
   pub mid : Shown
-  pub is : IsToldOf s later node operation old mid answer
+  pub is : IsToldOf s later who operation old mid answer
   pub forgot : length mid.log.entries < 2 ^ 63 → new ≡ forgetting mid
   pub kept : (length mid.log.entries < 2 ^ 63 → ⊥) → new ≡ mid

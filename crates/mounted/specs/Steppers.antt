@@ -10,6 +10,7 @@ use Rattle.mount_tables.specs.Numbers.{class_of, view_of}
 use Rattle.mount_tables.specs.declared.views.View.{View}
 use Rattle.mount_tables.specs.declared.numbers.Class.TheVariants.{Tree}
 use Rattle.mount_tables.specs.declared.views.State.TheVariants.{Live}
+use Rattle.mount_requests.specs.Apart.{AreApart}
 use Rattle.mount_requests.specs.Seen.{Seen}
 
 -- the process is that of the view's transaction, which goes on
@@ -25,6 +26,13 @@ abbrev pub StaysInView : Seen → ℕ → List Entry → List Entry → Type 0
 StaysInView s node old new =
     class_of node ≡ Tree → (view : ℕ) → view_of (root_of s.nodes node) ≡ Some view → view ≢ 0
     → (new ≡ old) ⊎ ((pid : ℕ) × IsStepper s view pid × IsSince pid old new)
+
+-- What a request about a node below a view does to times is seen in no other view: each object has the
+-- times there that it had. If one was made with its number nothing is known of it there.
+abbrev pub TimesStayInView : Seen → Seen → ℕ → Type 0
+TimesStayInView s later node =
+    class_of node ≡ Tree → (view : ℕ) → view_of (root_of s.nodes node) ≡ Some view → view ≢ 0
+    → AreApart s later view
 
 -- a file of a transaction that is over may be closed still
 abbrev pub is_release : Operation → Bool

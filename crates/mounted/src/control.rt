@@ -6,7 +6,7 @@ ghost use Rattle.course.specs.Hands.{Stand, bound};
 ghost use Rattle.mount_requests.specs.Seen.{seen};
 ghost use Rattle.mounted.specs.Controls.{Learns, Obeys, OrdersBy, ReadsBy, ServesControl, ShowsText};
 ghost use Rattle.mounted.specs.Controls.{cause_in, ended, live_in, numbered, obeying, order_by, ordered};
-ghost use Rattle.mounted.specs.Controls.{state_by, text_by, text_of, told_order, word_in};
+ghost use Rattle.mounted.specs.Controls.{state_by, text_by, text_of, times_by, told_order, word_in};
 ghost use Rattle.mounted.specs.Served.{ToldBy, told};
 ghost use Rattle.mount_tables.specs.declared.views.State.TheVariants.{Live};
 ghost use Rattle.mounted.specs.Server.{HasGrown};
@@ -21,7 +21,7 @@ use heap::Heap;
 use ids::{Bytes, Pid, Why};
 use machine::Machine;
 use mount_requests::{Failure, Tables, stepper_of};
-use mount_tables::{State, View, control_node};
+use mount_tables::{State, View, attr_of_node, control_node};
 use std::alloc::AllocError;
 use std::mem::replace;
 use transcript::print_why;
@@ -63,6 +63,18 @@ fn state_by(order: Order) -> State
     match order {
         Order::End => State::Committed,
         Order::Abort => State::GivenUp,
+    }
+}
+
+// What the view has noted of times is everybody's behind an end, and gone behind an abort.
+fn note_times(tables: &mut Tables, view: u64, order: Order)
+    ensures { seen tables.new ≡ record (seen tables.old) {
+      times = times_by order view (seen tables.old).times;
+    } }
+{
+    match order {
+        Order::End => tables.times.commit(view),
+        Order::Abort => tables.times.abort(view),
     }
 }
 
@@ -173,7 +185,7 @@ fn cause_in(mut reply: ids::Reply) -> Option<Why>
 
 // The attributes of the file.
 fn attr(tables: &Tables, view: u64) -> Reply {
-    Reply::Attr(tables.attributes.attr_of_node(control_node(view), false))
+    Reply::Attr(attr_of_node(control_node(view), false, tables.time))
 }
 
 impl<K: Machine> Serving<K> {
@@ -191,7 +203,7 @@ impl<K: Machine> Serving<K> {
         // For the proof: since then the history has grown, and no process has ended.
         let _history = self.hand.history();
         if let Some(why) = cause_in(reply) {
-            self.tables.views.abort(view, why);
+            self.tables.note_abort(view, why);
         }
     }
 
@@ -242,12 +254,13 @@ impl<K: Machine> Serving<K> {
         match outcome {
             Ok(()) => {
                 self.tables.views.set(view, state_by(order));
+                note_times(&mut self.tables, view, order);
                 Reply::Written {
                     size: size_of(bytes),
                 }
             }
             Err(Fault::Aborted(why)) => {
-                self.tables.views.abort(view, why);
+                self.tables.note_abort(view, why);
                 Reply::Error(Errno::ECANCELED)
             }
             Err(fault) => reply_of(Err(Failure::from(fault))),
@@ -293,12 +306,10 @@ impl<K: Machine> Serving<K> {
     {
         match operation {
             Operation::Lookup { name: _ } => Reply::Error(Errno::ENOTDIR),
-            Operation::GetAttr { handle: _ } => attr(&self.tables, view),
-            Operation::SetAttr { changes } => {
-                self.tables.attributes.hear_changes(&changes);
+            Operation::GetAttr { handle: _ } | Operation::SetAttr { changes: _ } => {
                 attr(&self.tables, view)
             }
-            Operation::Open { flags: _ } => Reply::Opened(Opened {
+            Operation::Open { flags: _, how: _ } => Reply::Opened(Opened {
                 handle: 0,
                 flags: OPENED_DIRECT,
             }),

@@ -3,7 +3,7 @@
 //! View 0 is the plain tree, whose root is node 1. A directory `.tx` stands in it that no list shows.
 //! `mkdir .tx/NAME` begins a transaction, and below `.tx/NAME` the whole tree stands as that
 //! transaction sees it. `.tx/NAME.ctl` tells how it stands, and `end` or `abort` written there ends
-//! it. Modes, owners and times are kept beside the kernel, the same for all views.
+//! it. Times are kept beside the kernel, for each view by itself.
 #![tactic(auto)]
 
 mod control;

@@ -70,11 +70,12 @@ fn chosen(tables: &Tables, node: u64, operation: &Operation) -> Option<Pid>
     ensures { result ≡ chosen (seen tables.now) node operation.now }
 {
     match operation {
-        Operation::Open { flags: _ } => opener(tables, node),
+        Operation::Open { flags: _, how: _ } => opener(tables, node),
         Operation::Create {
             name: _,
             flags: _,
             mode: _,
+            how: _,
         }
         | Operation::MkNod { name: _, mode: _ } => None,
         Operation::GetAttr { handle: _ } | Operation::SetAttr { changes: _ } => {

@@ -94,7 +94,7 @@ impl<K: Machine> Serving<K> {
             }
             Err(Fault::Aborted(why)) => {
                 count_down(&mut self.tables, handle);
-                self.tables.views.abort(file.view, why);
+                self.tables.note_abort(file.view, why);
                 Reply::Error(Errno::ECANCELED)
             }
             Err(fault) => {

@@ -5,19 +5,20 @@ ghost use Rattle.machine.specs.Shown.{Kept, limit_of, setup_of};
 ghost use Rattle.history_laws.specs.Headline.{IsSerializable};
 ghost use Rattle.fuse.specs.Operations.{is_answered};
 ghost use Rattle.mount_requests.specs.Seen.{IsUnknown};
+ghost use Rattle.mount_requests.specs.Times.{at_time};
 ghost use Rattle.mounted.specs.First.{IsFirst};
 ghost use Rattle.mounted.specs.Served.{IsServed};
-ghost use Rattle.mounted.specs.Server.{HasGrown};
+ghost use Rattle.mounted.specs.Server.{HasGrown, caller_of, seen_in};
 ghost use Rattle.mounted.specs.Sound.{IsSound};
-ghost use Rattle.mounted.specs.Steppers.{StaysInView, is_release};
+ghost use Rattle.mounted.specs.Steppers.{StaysInView, TimesStayInView, is_release};
 
 use crate::serving::Serving;
-use fuse::{Reply, Request};
+use fuse::{Reply, Request, Time};
 use heap::Heap;
-use ids::{Limits, Priority};
+use ids::{Limits, Owner, Priority};
 use machine::Machine;
 use mount_requests::{Caller, Tables};
-use mount_tables::{Owner, first_process};
+use mount_tables::first_process;
 use std::alloc::AllocError;
 use std::marker::Model;
 
@@ -36,13 +37,13 @@ impl<K: Machine> Drop for Server<K> {
 
 impl<K: Machine> Model for Server<K> {
     ghost use Rattle.mount_requests.specs.Seen.{seen};
-    ghost use Rattle.mounted.specs.Server.{Served};
+    ghost use Rattle.mounted.specs.Server.{Served, beside_of};
     ghost use Rattle.mounted.specs.Sound.{IsSound};
 
     ghost Value = { Served };
 
     ghost view = { λ s. record {
-      seen = seen s.serving.tables;
+      beside = beside_of s.serving.tables;
       shown = s.serving.hand.shown;
     } };
 
@@ -90,7 +91,7 @@ impl<K: Machine> Server<K> {
         requires files { limits.file_bytes ≤ LARGEST_FILE }
         ensures kept { IfOk result (λ s. Kept s.shown) }
         ensures first { IfOk result (λ s. IsFirst limits s.shown) }
-        ensures unknown { IfOk result (λ s. IsUnknown s.seen) }
+        ensures unknown { IfOk result (λ s. IsUnknown (seen_in s)) }
     {
         let kernel = kernel_with(heap, limits)?;
         Ok(Server {
@@ -98,24 +99,28 @@ impl<K: Machine> Server<K> {
         })
     }
 
-    /// What is answered to a request; None where no answer is due, which is so for what is forgotten and
-    /// for the wish that a request ends early. The kernel's history stays legal and strictly
-    /// serializable, and only grows. Each request is served by its definition: by which process, by
-    /// which steps, what its reply tells, and what is known then of nodes, open files and transactions;
-    /// all else stands. For a request about a node below a view only the process of its transaction
-    /// steps, while that goes on, and nothing is done where it does not.
-    pub fn serve(&mut self, request: Request) -> Option<Reply>
+    /// What is answered to a request, which is served at this time; None where no answer is due, which
+    /// is so for what is forgotten and for the wish that a request ends early. The kernel's history stays
+    /// legal and strictly serializable, and only grows. Each request is served by its definition: by
+    /// which process, by which steps, what its reply tells, and what is known then of nodes, open files,
+    /// transactions and times; all else stands. A time before that of an earlier request is taken for
+    /// that one. For a request about a node below a view only the process of its transaction steps, while
+    /// that goes on, and nothing is done where it does not; and what it does to times is seen in no other
+    /// view.
+    pub fn serve(&mut self, request: Request, now: Time) -> Option<Reply>
         ensures kept { Kept self.new.shown }
         ensures serial { let s = self.new.shown in
             IsSerializable 0 (setup_of s.log) (limit_of s.log) s.log.entries s.state }
         ensures grows { HasGrown self.old.shown self.new.shown }
-        ensures sound { IsSound self.new.seen self.new.shown }
+        ensures sound { IsSound (seen_in self.new) self.new.shown }
         ensures answered { is_some result ≡ is_answered request.operation }
         ensures in_view { is_release request.operation ≡ false
-            → StaysInView self.old.seen request.node
+            → StaysInView (seen_in self.old) request.node
             self.old.shown.log.entries self.new.shown.log.entries }
-        ensures served { IsServed self.old.seen self.new.seen request.node request.operation
-            self.old.shown self.new.shown result }
+        ensures served { IsServed (at_time now (seen_in self.old)) (seen_in self.new)
+            (caller_of request) request.operation self.old.shown self.new.shown result }
+        ensures times { is_release request.operation ≡ false
+            → TimesStayInView (seen_in self.old) (seen_in self.new) request.node }
     {
         let Request {
             unique: _,
@@ -127,8 +132,12 @@ impl<K: Machine> Server<K> {
         } = request;
         let caller = Caller {
             node,
-            owner: Owner { uid, gid },
+            owner: Owner {
+                user: uid,
+                group: gid,
+            },
         };
+        self.serving.tables.set_time(now);
         self.serving.serve(caller, operation)
     }
 }

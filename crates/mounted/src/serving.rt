@@ -69,7 +69,7 @@ impl<K: Machine> Serving<K> {
         ensures answered { is_some result ≡ is_answered operation }
         ensures in_view { is_release operation ≡ false → StaysInView (seen self.old.tables) caller.node
             self.old.hand.shown.log.entries self.new.hand.shown.log.entries }
-        ensures served { IsServed (seen self.old.tables) (seen self.new.tables) caller.node operation
+        ensures served { IsServed (seen self.old.tables) (seen self.new.tables) caller operation
             self.old.hand.shown self.new.hand.shown result }
     {
         let reply = self.answer(caller, operation);
@@ -88,7 +88,7 @@ impl<K: Machine> Serving<K> {
         ensures answered { is_some result ≡ is_answered operation }
         ensures in_view { is_release operation ≡ false → StaysInView (seen self.old.tables) caller.node
             self.old.hand.shown.log.entries self.new.hand.shown.log.entries }
-        ensures told { IsToldOf (seen self.old.tables) (seen self.new.tables) caller.node operation
+        ensures told { IsToldOf (seen self.old.tables) (seen self.new.tables) caller operation
             self.old.hand.shown self.new.hand.shown result }
     {
         match operation {
@@ -122,7 +122,7 @@ impl<K: Machine> Serving<K> {
             (seen self.new.tables) self.new.hand.shown }
         ensures in_view { is_release operation ≡ false → StaysInView (seen self.old.tables) caller.node
             self.old.hand.shown.log.entries self.new.hand.shown.log.entries }
-        ensures served { ToldBy (Serves (seen self.old.tables) (seen self.new.tables) caller.node
+        ensures served { ToldBy (Serves (seen self.old.tables) (seen self.new.tables) caller
             operation self.old.hand.shown self.new.hand.shown) result }
     {
         match operation {
@@ -154,7 +154,7 @@ impl<K: Machine> Serving<K> {
         ensures in_view { StaysInView (seen self.old.tables) caller.node
             self.old.hand.shown.log.entries self.new.hand.shown.log.entries }
         ensures served { ToldBy (ServesAt (class_of caller.node) (seen self.old.tables)
-            (seen self.new.tables) caller.node operation
+            (seen self.new.tables) caller operation
             self.old.hand.shown self.new.hand.shown) result }
     {
         match class_of(caller.node) {
@@ -172,7 +172,7 @@ impl<K: Machine> Serving<K> {
             (seen self.new.tables) self.new.hand.shown }
         ensures in_view { StaysInView (seen self.old.tables) caller.node
             self.old.hand.shown.log.entries self.new.hand.shown.log.entries }
-        ensures served { ToldBy (ServesTree (seen self.old.tables) (seen self.new.tables) caller.node
+        ensures served { ToldBy (ServesTree (seen self.old.tables) (seen self.new.tables) caller
             operation self.old.hand.shown self.new.hand.shown) result }
     {
         match self.tables.stepper_at(caller.node) {
@@ -194,7 +194,7 @@ impl<K: Machine> Serving<K> {
         ensures since { IsSince stepper.pid
             self.old.hand.shown.log.entries self.new.hand.shown.log.entries }
         ensures served { ToldBy (ServesView (seen self.old.tables) (seen self.new.tables) stepper.view
-            stepper.pid caller.node operation self.old.hand.shown self.new.hand.shown) result }
+            stepper.pid caller operation self.old.hand.shown self.new.hand.shown) result }
     {
         self.hand.bind(stepper.pid);
         let outcome = self.tables.answer(&mut self.hand, caller, operation);
@@ -213,7 +213,7 @@ impl<K: Machine> Serving<K> {
             Ok(reply) => reply,
             Err(Failure::Error(errno)) => Reply::Error(errno),
             Err(Failure::Aborted(why)) => {
-                self.tables.views.abort(view, why);
+                self.tables.note_abort(view, why);
                 Reply::Error(Errno::ECANCELED)
             }
         }
@@ -225,7 +225,7 @@ impl<K: Machine> Serving<K> {
         ensures grows { HasGrown self.old.hand.shown self.new.hand.shown }
         ensures sound { StaysSound (seen self.old.tables) self.old.hand.shown
             (seen self.new.tables) self.new.hand.shown }
-        ensures serves { ServesPlain (seen self.old.tables) (seen self.new.tables) caller.node operation
+        ensures serves { ServesPlain (seen self.old.tables) (seen self.new.tables) caller operation
             self.old.hand.shown self.new.hand.shown result }
     {
         let pid = self.choose_plain(caller.node, &operation)?;

@@ -2,12 +2,19 @@
 ghost use Rattle.mounted.specs.Served.{IsBeginning, IsStatus};
 ghost use Rattle.std.specs.Prelude.{Ok};
 
-use fuse::bits::{INIT_BIG_WRITES, INIT_DROPS_CHANGED, INIT_MAX_PAGES, INIT_OPEN_TRUNCATES};
+use fuse::bits::{
+    INIT_BIG_WRITES, INIT_DROPS_CHANGED, INIT_DROPS_SET_IDS, INIT_MAX_PAGES, INIT_OPEN_TRUNCATES,
+};
 use fuse::{Init, Reply, StatFs};
 
 // What is asked of the kernel, where it can: opens that cut, writes of more than a page, requests of
-// many pages, and that cached pages go where a file has changed.
-const WANTED: u32 = INIT_OPEN_TRUNCATES | INIT_BIG_WRITES | INIT_DROPS_CHANGED | INIT_MAX_PAGES;
+// many pages, that cached pages go where a file has changed, and that it says where set-user-ID and
+// set-group-ID go.
+const WANTED: u32 = INIT_OPEN_TRUNCATES
+    | INIT_BIG_WRITES
+    | INIT_DROPS_CHANGED
+    | INIT_DROPS_SET_IDS
+    | INIT_MAX_PAGES;
 
 // The most bytes of one write.
 const MOST_WRITTEN: u32 = 1_048_576;

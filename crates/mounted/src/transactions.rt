@@ -1,9 +1,11 @@
 // Requests about the directory of transactions.
-ghost use Rattle.std.specs.Prelude.{◌≡◌, ◌≤◌, ◌<◌, ◌==◌, ◌&&◌, Result, Some, IfErr, IfOk, option_map};
+ghost use Rattle.std.specs.Prelude.{◌≡◌, ◌≤◌, ◌<◌, ◌==◌, ◌&&◌, Result, Some, IfErr, IfOk, is_some, option_map};
 ghost use Rattle.course.specs.Course.{Ran};
 ghost use Rattle.course.specs.Courses.{giving_up};
 ghost use Rattle.course.specs.Hands.{Stand, bound};
 ghost use Rattle.mount_requests.specs.Seen.{seen};
+ghost use Rattle.mount_tables.specs.Attributes.{IsOfNode};
+ghost use Rattle.mount_tables.specs.Numbers.{view_of};
 ghost use Rattle.mounted.specs.Controls.{AsksTransactions, BeganBy, Begins, Closed, ClosedIf};
 ghost use Rattle.mounted.specs.Controls.{IsWithoutFiles, LeavesAs, Left, ListsSome, NotBegun, OnlyFiles, Opens, Removes};
 ghost use Rattle.mounted.specs.Controls.{ServesTransactions, ShowsNode, control_of, gone, leaving_in};
@@ -21,7 +23,8 @@ use ids::{Bytes, NAME_LIMIT, Name, NameList, Pid};
 use machine::Machine;
 use mount_requests::{Failure, Tables, list_from};
 use mount_tables::{
-    OpenFile, Role, State, TRANSACTIONS, control_node, first_process, root_node, view_of,
+    OpenFile, Role, State, TRANSACTIONS, attr_of_node, control_node, first_process, root_node,
+    view_of,
 };
 use std::alloc::AllocError;
 
@@ -78,13 +81,14 @@ fn names_of_transactions(tables: &Tables) -> Result<NameList, AllocError> {
 
 // What is told of a node that is no object of the kernel.
 fn entry_of_node(tables: &Tables, node: u64) -> Entry
-    ensures { result.node ≡ node }
+    ensures node { result.node ≡ node }
+    ensures attr { IsOfNode node (is_some (view_of node)) (seen tables.now).time result.attr }
 {
     let is_directory = view_of(node).is_some();
     Entry {
         node,
         generation: 0,
-        attr: tables.attributes.attr_of_node(node, is_directory),
+        attr: attr_of_node(node, is_directory, tables.time),
     }
 }
 
@@ -130,7 +134,7 @@ fn plan_level(tables: &Tables, name: &[u8]) -> Result<u8, Failure>
 
 // The attributes of the directory.
 fn attr(tables: &Tables) -> Reply {
-    Reply::Attr(tables.attributes.attr_of_node(TRANSACTIONS, true))
+    Reply::Attr(attr_of_node(TRANSACTIONS, true, tables.time))
 }
 
 // How a view stands that is taken away: its transaction goes on, or was committed, or is over without
@@ -302,8 +306,8 @@ impl<K: Machine> Serving<K> {
         all
     }
 
-    // A view goes, whose process closes what is open still. It waits again, unless something could not
-    // be closed.
+    // A view goes, and what it has noted of times, if it has not committed. Its process closes what is
+    // open still, and waits again, unless something could not be closed.
     fn drop_view(&mut self, name: &[u8], leaving: Leaving, is_open: bool) -> Result<Reply, Failure>
         requires found { leaving_in (seen self.old.tables) name.now ≡ Some leaving }
         ensures left { Left is_open (seen self.old.tables) (seen self.new.tables) name.now leaving
@@ -324,6 +328,7 @@ impl<K: Machine> Serving<K> {
         // For the proof: since then the history has grown, and no process has ended.
         let _history = self.hand.history();
         let _number = self.tables.views.remove(name);
+        self.tables.times.abort(number);
         if is_closed {
             self.tables.processes.assign(pid, Role::Idle(level));
         }
@@ -389,9 +394,7 @@ impl<K: Machine> Serving<K> {
         ensures seen { AsksTransactions (seen self.old.tables) (seen self.new.tables) operation result }
     {
         match operation {
-            Operation::GetAttr { handle: _ } => Ok(attr(&self.tables)),
-            Operation::SetAttr { changes } => {
-                self.tables.attributes.hear_changes(&changes);
+            Operation::GetAttr { handle: _ } | Operation::SetAttr { changes: _ } => {
                 Ok(attr(&self.tables))
             }
             Operation::Access { mask: _ } => Ok(Reply::Empty),

@@ -5,7 +5,7 @@ use Rattle.std.specs.Prelude.{Option, Some, None, if◌then◌else◌}
 use Rattle.std.specs.Coded.{Coded, code_by, coded×, coded_ℕ}
 use Rattle.std.specs.Ordering.{nat_cmp}
 use Rattle.ids.specs.declared.reply.Kind.{Kind}
-use Rattle.ids.specs.declared.reply.Kind.TheVariants.{File, Dir, Pipe}
+use Rattle.ids.specs.declared.reply.Kind.TheVariants.{File, Dir, Pipe, Link, Fifo, Socket}
 use Rattle.model.specs.FiniteMap as map
 use Rattle.nodes.specs.DirectoryEntries.{entry_cmp, coded_entry}
 use Rattle.nodes.specs.declared.node.Node.{Node}
@@ -25,16 +25,25 @@ abbrev kind_code : Kind → ℕ
 kind_code File = 0
 kind_code Dir = 1
 kind_code Pipe = 2
+kind_code Link = 3
+kind_code Fifo = 4
+kind_code Socket = 5
 
 abbrev kind_from : ℕ → Kind
 kind_from zero = File
 kind_from (suc zero) = Dir
-kind_from (suc (suc n)) = Pipe
+kind_from (suc (suc zero)) = Pipe
+kind_from (suc (suc (suc zero))) = Link
+kind_from (suc (suc (suc (suc zero)))) = Fifo
+kind_from (suc (suc (suc (suc (suc n))))) = Socket
 
 pub same_kind : (kind : Kind) → kind_from (kind_code kind) ≡ kind
 same_kind File = refl
 same_kind Dir = refl
 same_kind Pipe = refl
+same_kind Link = refl
+same_kind Fifo = refl
+same_kind Socket = refl
 
 abbrev pub coded_kind : Coded Kind
 coded_kind = code_by ℕ coded_ℕ kind_code kind_from same_kind

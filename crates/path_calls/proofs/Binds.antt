@@ -1,17 +1,19 @@
 -- Plans whose first steps one function takes.
-use Rattle.std.proofs.Common.{◌≡◌, ℕ, List, [], ◌∷◌, Bool, true, false, Option, Some, None, Result, Ok, Err, not, ◌&&◌, ◌==◌, if◌then◌else◌, refl, sym}
+use Rattle.std.proofs.Common.{◌≡◌, ℕ, List, [], ◌∷◌, Bool, true, false, Option, Some, None, Result, Ok, Err, not, ◌&&◌, ◌==◌, if◌then◌else◌, length, nat_lt, refl, sym}
+use Rattle.std.specs.List.{list_any}
+use Rattle.model.specs.Limits.{target_limit}
 use Rattle.std.specs.Prelude.{IsErrAnd}
-use Rattle.model.specs.State.{Kernel, A_directory}
-use Rattle.model.specs.Plan.{Errno as Refused, EISDIR, ENOTDIR, ENOTEMPTY, Plan, Give, Refuse, Ask, List_names, ◌>>=◌, ◌>>◌, ask, refuse_if}
+use Rattle.model.specs.State.{Kernel, A_directory, A_link}
+use Rattle.model.specs.Plan.{Errno as Refused, EINVAL, EISDIR, ENAMETOOLONG, ENOENT, ENOTDIR, ENOTEMPTY, Plan, Give, Refuse, Ask, List_names, Count_links, ◌>>=◌, ◌>>◌, ask, refuse_if}
 use Rattle.model.specs.Walks.{Place, Last, is_directory, parsed, walk, last_of}
 use Rattle.model.specs.Paths.{is_empty}
 use Rattle.model.specs.Calls.{Done}
 use Rattle.model.specs.Changes.{Move, Replaced}
-use Rattle.model.specs.Plans.{Change, changed, unchanged, moved, replaced_by_name}
+use Rattle.model.specs.Plans.{Change, changed, unchanged, stated, status, moved, replaced_by_name}
 use Rattle.model.specs.Steps.{Touch}
 use Rattle.ids.specs.declared.errno.Refusal.{Refusal}
 use Rattle.look.specs.Asked.{Comes}
-use Rattle.path_calls.specs.Parts.{place_at, last_at, without_names, gives, replaced, replaced_over}
+use Rattle.path_calls.specs.Parts.{place_at, last_at, target_length, target_tested, without_names, gives, replaced, replaced_over}
 use Rattle.walk.proofs.Laws.{goes, stops, via}
 
 pub binds : {A B C : Type 0} (m : Plan A) (f : A → Plan B) (g : B → Plan C) → (m >>= f) >>= g ≡ m >>= (λ x. f x >>= g)
@@ -40,6 +42,25 @@ test_then false e m g = refl
 
 pub bare_then : {B : Type 0} (dir : ℕ) (g : Plan B) → (ask (List_names dir) >>= (λ entries. refuse_if (not (is_empty entries)) ENOTEMPTY >> g)) ≡ (without_names dir >> g)
 bare_then dir g = refl
+
+-- the tests of a target, and the rest
+three_then : {B : Type 0} (a b c : Bool) (g : Plan B) → (refuse_if a ENOENT >> (refuse_if b ENAMETOOLONG >> (refuse_if c EINVAL >> g))) ≡ ((refuse_if a ENOENT >> (refuse_if b ENAMETOOLONG >> refuse_if c EINVAL)) >> g)
+three_then true b c g = refl
+three_then false true c g = refl
+three_then false false c g = refl
+
+pub tested_then : {B : Type 0} (target : List ℕ) (g : Plan B) → (refuse_if (is_empty target) ENOENT >> (refuse_if (nat_lt target_limit (length target)) ENAMETOOLONG >> (refuse_if (list_any (λ b. b == 0) target) EINVAL >> g))) ≡ (target_tested target >> g)
+tested_then target g = three_then (is_empty target) (nat_lt target_limit (length target)) (list_any (λ b. b == 0) target) g
+
+-- what a symbolic link is like, by its target's length and by how many names it has
+abbrev pub link_with : ℕ → ℕ → ℕ → Plan Change
+link_with n size links = stated A_link n size links
+
+abbrev pub link_of : ℕ → ℕ → Plan Change
+link_of n size = ask (Count_links n) >>= link_with n size
+
+pub link_by : (n : ℕ) → status (n, Some A_link) ≡ (target_length n >>= link_of n)
+link_by n = refl
 
 two_then : {A B : Type 0} (a b : Bool) (m : Plan A) (g : A → Plan B) → (refuse_if a EISDIR >> (refuse_if b ENOTDIR >> (m >>= g))) ≡ ((refuse_if a EISDIR >> (refuse_if b ENOTDIR >> m)) >>= g)
 two_then true b m g = refl

@@ -1,13 +1,16 @@
 -- Parts of plans of calls on paths.
 use Rattle.std.specs.Prelude.{ℕ, Bool, false, Option, Some, None, List, [], ◌∷◌, not, ◌&&◌, ◌||◌}
-use Rattle.std.specs.Prelude.{◌==◌, ⊤}
-use Rattle.model.specs.State.{Name, A_directory}
-use Rattle.model.specs.Plan.{Errno, EISDIR, ENOENT, ENOTDIR, ENOTEMPTY, EBUSY, EEXIST, EINVAL, EPERM}
-use Rattle.model.specs.Plan.{List_names, ask, Plan, Give, ◌>>=◌, ◌>>◌, refuse_if, or_refuse}
+use Rattle.std.specs.Prelude.{◌==◌, ⊤, length, nat_lt}
+use Rattle.std.specs.List.{list_any}
+use Rattle.model.specs.Limits.{target_limit}
+use Rattle.model.specs.State.{Name, Kind, Fixed_content, A_directory}
+use Rattle.model.specs.Plan.{Errno, EISDIR, ENAMETOOLONG, ENOENT, ENOTDIR, ENOTEMPTY, EBUSY, EEXIST}
+use Rattle.model.specs.Plan.{EINVAL, EPERM, List_names, Count_links, Read_target, ask, Plan, Give}
+use Rattle.model.specs.Plan.{◌>>=◌, ◌>>◌, refuse_if, or_refuse}
 use Rattle.model.specs.Walks.{Place, Last, is_directory, parsed, walk, last_of}
-use Rattle.model.specs.Changes.{Name_file, Replaced, Over_nothing}
+use Rattle.model.specs.Changes.{Name_file, Make_fixed, Replaced, Over_nothing}
 use Rattle.model.specs.Calls.{Done}
-use Rattle.model.specs.Plans.{Change, changed, absent, moved, replaced_by_name}
+use Rattle.model.specs.Plans.{Change, changed, absent, moved, replaced_by_name, stated}
 use Rattle.model.specs.Paths.{is_empty, is_below}
 
 -- the place that a path leads to, and where its last name stands
@@ -21,6 +24,12 @@ last_at root e path = do
   names ← parsed path
   last_of root e names
 
+-- the length of a symbolic link's target
+abbrev pub target_length : ℕ → Plan ℕ
+target_length link = do
+  target ← ask (Read_target link)
+  Give (length target)
+
 -- whether a directory has no names
 abbrev pub has_no_names : ℕ → Plan Bool
 has_no_names dir = do
@@ -32,6 +41,27 @@ abbrev pub without_names : ℕ → Plan ⊤
 without_names dir = do
   entries ← ask (List_names dir)
   refuse_if (not (is_empty entries)) ENOTEMPTY
+
+-- what an object is like that is a name and has no content
+abbrev pub status_of_name : ℕ → Kind → Plan Change
+status_of_name n kind = do
+  links ← ask (Count_links n)
+  stated kind n 0 links
+
+-- the tests of a symbolic link's target
+abbrev pub target_tested : List ℕ → Plan ⊤
+target_tested target = do
+  refuse_if (is_empty target) ENOENT
+  refuse_if (nat_lt target_limit (length target)) ENAMETOOLONG
+  refuse_if (list_any (λ b. b == 0) target) EINVAL
+
+-- an object by its path whose content never changes
+abbrev pub made : ℕ → List ℕ → Fixed_content → Plan Change
+made root path fixed = do
+  names ← parsed path
+  at ← last_of root EEXIST names
+  absent at.found
+  changed Done (Make_fixed at.parent at.name fixed 0 ∷ [])
 
 -- a link, after both paths are read
 abbrev pub link_paths : ℕ → List Name → List Name → Plan Change

@@ -1,9 +1,9 @@
 // The questions about what paths lead to, each with what it reads.
-ghost use Rattle.path_calls.specs.Parts.{has_no_names};
-ghost use Rattle.model.specs.Plan.{ask, List_names, Measure, Count_links};
+ghost use Rattle.path_calls.specs.Parts.{has_no_names, target_length};
+ghost use Rattle.model.specs.Plan.{ask, List_names, Measure, Count_links, Read_target, Find_rights};
 ghost use Rattle.look.specs.Asked.{Comes};
 
-use ids::{Aspect, NameList, Num, Refusal};
+use ids::{Aspect, Bytes, NameList, Num, Refusal, Rights};
 use look::Look;
 use walk::Reads;
 
@@ -31,10 +31,38 @@ pub fn size<L: Look>(look: &L, file: Num, reads: &mut Reads) -> Result<u32, Refu
     Ok(look.size(file)?)
 }
 
-// How many names give a file.
+// How many names give a file, or anything else that is no directory.
 pub(crate) fn links<L: Look>(look: &L, file: Num, reads: &mut Reads) -> Result<u32, Refusal>
     ensures { Comes (L.state look.now) (ask (Count_links file)) reads.old result reads.new }
 {
     reads.add(Aspect::Links(file))?;
     Ok(look.links(file)?)
+}
+
+// A symbolic link's target.
+pub(crate) fn target<L: Look>(look: &L, link: Num, reads: &mut Reads) -> Result<Bytes, Refusal>
+    ensures { Comes (L.state look.now) (ask (Read_target link)) reads.old result reads.new }
+{
+    reads.add(Aspect::Target(link))?;
+    Ok(look.target(reads.heap(), link)?)
+}
+
+// The permissions and the owner of an object.
+pub(crate) fn rights<L: Look>(look: &L, inode: Num, reads: &mut Reads) -> Result<Rights, Refusal>
+    ensures { Comes (L.state look.now) (ask (Find_rights inode)) reads.old result reads.new }
+{
+    reads.add(Aspect::Rights(inode))?;
+    Ok(look.rights(inode))
+}
+
+// The length of a symbolic link's target.
+pub(crate) fn target_length<L: Look>(look: &L, link: Num, reads: &mut Reads) -> Result<u32, Refusal>
+    ensures { Comes (L.state look.now) (target_length link) reads.old result reads.new }
+{
+    let target = target(look, link, reads)?;
+    // For the proof: no call makes a target of 2^32 bytes, which a state alone does not say.
+    match u32::try_from(target.as_slice().len()) {
+        Ok(length) => Ok(length),
+        Err(_) => Err(Refusal::NoMemory),
+    }
 }

@@ -11,16 +11,16 @@ use crate::asking::{has_no_names, names, size};
 use crate::change::{Change, Edits, changed, changed_by, unchanged};
 use crate::steps::{
     absent, is_directory, must_be_directory_for, must_be_no_directory_for, must_not_be_directory,
-    must_not_be_root, must_not_go_below, parsed, refuse_if,
+    must_not_be_root, must_not_be_special, must_not_go_below, parsed, refuse_if,
 };
 use heap::Heap;
 use ids::{Answer, Bytes, Edit, Errno, Kind, Num, Refusal, Replaced};
 use look::Look;
 use path::Path;
-use walk::{Last, Reads, must_be_directory, or_refuse, walk_to_last};
+use walk::{Last, Reads, must_be_directory, must_not_be_link, or_refuse, walk_to_last};
 
 // One change, and no more to say.
-fn done(heap: Heap, edit: Edit) -> Result<Change, Refusal>
+pub(crate) fn done(heap: Heap, edit: Edit) -> Result<Change, Refusal>
     ensures { Tells (changed Done (edit ∷ [])) result }
 {
     changed_by(heap, Answer::Done, edit)
@@ -40,7 +40,7 @@ pub(crate) fn place_at<L: Look>(
 }
 
 // Where the last name of a path stands.
-fn last_at<L: Look>(
+pub(crate) fn last_at<L: Look>(
     look: &L,
     of_root: Errno,
     path: &Bytes,
@@ -84,6 +84,8 @@ pub fn truncate<L: Look>(
 {
     let place = place_at(look, path, reads)?;
     must_not_be_directory(&place, Errno::EISDIR)?;
+    must_not_be_link(&place)?;
+    must_not_be_special(&place, Errno::EINVAL)?;
     refuse_if(look.largest() < length, Errno::EFBIG)?;
     let cut = cut_to(look, place.0, length, reads)?;
     changed(Answer::Done, cut)
@@ -141,6 +143,7 @@ pub fn list<L: Look>(look: &L, path: &Bytes, reads: &mut Reads) -> Result<Change
         reads.old result reads.new }
 {
     let place = place_at(look, path, reads)?;
+    must_not_be_link(&place)?;
     must_be_directory(&place)?;
     let entries = names(look, place.0, reads)?;
     unchanged(reads.heap(), Answer::Names(entries))

@@ -1,16 +1,16 @@
 // What an object is like.
 ghost use Rattle.std.specs.Prelude.{ℕ, Some};
-ghost use Rattle.model.specs.Plans.{plan, unchanged, status};
-ghost use Rattle.model.specs.Calls.{own, Stated, Stat as Stat_path};
-ghost use Rattle.look.specs.Asked.{Comes, Tells};
+ghost use Rattle.model.specs.Plans.{plan, stated, status};
+ghost use Rattle.path_calls.specs.Parts.{status_of_name};
+ghost use Rattle.model.specs.Calls.{own, Stat as Stat_path, Lstat};
+ghost use Rattle.look.specs.Asked.{Comes};
 
-use crate::asking::{links, size};
+use crate::asking::{links, rights, size, target_length};
 use crate::change::{Change, unchanged};
 use crate::paths::place_at;
-use heap::Heap;
 use ids::{Answer, Bytes, Errno, Kind, Num, Refusal, Stat};
 use look::Look;
-use walk::Reads;
+use walk::{Reads, must_not_be_link};
 
 /// What an object is like, with what that reads.
 pub fn status<L: Look>(
@@ -34,24 +34,53 @@ fn status_of<L: Look>(look: &L, num: Num, kind: Kind, reads: &mut Reads) -> Resu
         Kind::File => {
             let size = size(look, num, reads)?;
             let links = links(look, num, reads)?;
-            stated(reads.heap(), Kind::File, num, size, links)
+            stated(look, Kind::File, num, size, links, reads)
         }
-        Kind::Dir => stated(reads.heap(), Kind::Dir, num, 0, 1),
-        Kind::Pipe => stated(reads.heap(), Kind::Pipe, num, 0, 0),
+        Kind::Dir => stated(look, Kind::Dir, num, 0, 1, reads),
+        Kind::Pipe => stated(look, Kind::Pipe, num, 0, 0, reads),
+        Kind::Link => {
+            let size = target_length(look, num, reads)?;
+            let links = links(look, num, reads)?;
+            stated(look, Kind::Link, num, size, links, reads)
+        }
+        Kind::Fifo => status_of_name(look, num, Kind::Fifo, reads),
+        Kind::Socket => status_of_name(look, num, Kind::Socket, reads),
     }
 }
 
-fn stated(heap: Heap, kind: Kind, num: Num, size: u32, links: u32) -> Result<Change, Refusal>
-    ensures { Tells (unchanged
-        (Stated (record { kind = kind; num = num; size = size; links = links }))) result }
+// What an object is like that is a name and has no content.
+fn status_of_name<L: Look>(
+    look: &L,
+    num: Num,
+    kind: Kind,
+    reads: &mut Reads,
+) -> Result<Change, Refusal>
+    ensures { Comes (L.state look.now) (status_of_name num kind) reads.old result reads.new }
 {
+    let links = links(look, num, reads)?;
+    stated(look, kind, num, 0, links, reads)
+}
+
+// With its permissions and its owner, which are asked for last.
+fn stated<L: Look>(
+    look: &L,
+    kind: Kind,
+    num: Num,
+    size: u32,
+    links: u32,
+    reads: &mut Reads,
+) -> Result<Change, Refusal>
+    ensures { Comes (L.state look.now) (stated kind num size links) reads.old result reads.new }
+{
+    let rights = rights(look, num, reads)?;
     unchanged(
-        heap,
+        reads.heap(),
         Answer::Stat(Stat {
             kind,
             num,
             size,
             links,
+            rights,
         }),
     )
 }
@@ -60,6 +89,17 @@ fn stated(heap: Heap, kind: Kind, num: Num, size: u32, links: u32) -> Result<Cha
 pub fn stat<L: Look>(look: &L, path: &Bytes, reads: &mut Reads) -> Result<Change, Refusal>
     ensures { (pid : ℕ) → Comes (L.state look.now)
         (plan (own (L.state look.now) pid (Stat_path path.now)) (Stat_path path.now))
+        reads.old result reads.new }
+{
+    let place = place_at(look, path, reads)?;
+    must_not_be_link(&place)?;
+    status(look, place.0, place.1, reads)
+}
+
+/// What lstat of a path comes to.
+pub fn lstat<L: Look>(look: &L, path: &Bytes, reads: &mut Reads) -> Result<Change, Refusal>
+    ensures { (pid : ℕ) → Comes (L.state look.now)
+        (plan (own (L.state look.now) pid (Lstat path.now)) (Lstat path.now))
         reads.old result reads.new }
 {
     let place = place_at(look, path, reads)?;

@@ -2,8 +2,8 @@
 ghost use Rattle.std.specs.Prelude.{◌≡◌, ◌&&◌, ◌||◌, not};
 ghost use Rattle.model.specs.Plan.{refuse_if, ENOTDIR, EBUSY, EINVAL, EISDIR};
 ghost use Rattle.model.specs.Paths.{is_empty, is_below};
-ghost use Rattle.model.specs.Walks.{parsed, is_directory};
-ghost use Rattle.model.specs.Plans.{absent};
+ghost use Rattle.model.specs.Walks.{parsed, is_directory, is_link};
+ghost use Rattle.model.specs.Plans.{absent, is_special};
 ghost use Rattle.look.specs.Asked.{Tells};
 
 use heap::Heap;
@@ -45,6 +45,26 @@ pub fn must_not_be_directory(place: &(Num, Option<Kind>), errno: Errno) -> Resul
     match place.1 {
         Some(Kind::Dir) => Err(Refusal::Errno(errno)),
         _ => Ok(()),
+    }
+}
+
+/// A place that must not be a FIFO or a socket: this refusal where it is.
+pub fn must_not_be_special(place: &(Num, Option<Kind>), errno: Errno) -> Result<(), Refusal>
+    ensures { Tells (refuse_if (is_special place.now) errno) result }
+{
+    match place.1 {
+        Some(Kind::Fifo) | Some(Kind::Socket) => Err(Refusal::Errno(errno)),
+        _ => Ok(()),
+    }
+}
+
+// A place that has to be a symbolic link.
+pub(crate) fn must_be_link(place: &(Num, Option<Kind>)) -> Result<(), Refusal>
+    ensures { Tells (refuse_if (not (is_link place.now)) EINVAL) result }
+{
+    match place.1 {
+        Some(Kind::Link) => Ok(()),
+        _ => Err(Refusal::Errno(Errno::EINVAL)),
     }
 }
 

@@ -1,9 +1,9 @@
 -- What the code makes of a kernel by each edit is what the edit makes.
 use Rattle.std.proofs.Common.{◌≡◌, ℕ, ◌+◌, ◌≤◌, List, [], ◌++◌, length, get_or, drop, ap, sym, subst, ◌∙◌}
 use Rattle.model.specs.FiniteMap.{FinMap, get, empty, insert, remove}
-use Rattle.model.specs.State.{Name, name_cmp, Kernel, Inode, File, Directory, Pipe, Description, file_of, pipe_of}
-use Rattle.model.specs.Changes.{Edit, Which, Mode, Replaced, Make_directory, Make_file, Name_file, Unname_file, Unname_directory, Move, Put_bytes, Cut, Take, Append, Set_offset, Open_inode, Make_pipe, Share_slot, Clear_slot, New_process, End_process}
-use Rattle.model.specs.Changes.{applied, at_start, clear_name, number, open_at, process_of, set_description, set_inode, set_name, set_offset, set_process, sized, to_read, to_write, with_slot, without_slot, written}
+use Rattle.model.specs.State.{Name, name_cmp, Kernel, Inode, File, Directory, Pipe, Fixed, Fixed_content, Description, Rights, file_of, pipe_of}
+use Rattle.model.specs.Changes.{Edit, Which, Mode, Replaced, Make_directory, Make_file, Make_fixed, Name_file, Unname_file, Unname_directory, Move, Put_bytes, Cut, Take, Append, Set_offset, Set_rights, Open_inode, Make_pipe, Share_slot, Clear_slot, New_process, End_process}
+use Rattle.model.specs.Changes.{applied, at_start, clear_name, number, open_at, process_of, set_description, set_inode, set_name, set_offset, set_process, set_rights, sized, to_read, to_write, with_slot, without_slot, written}
 use Rattle.model.specs.Limits.{largest_file}
 use Rattle.plain_kernel.specs.Edits.{EndsWithin}
 
@@ -22,6 +22,12 @@ module _ (chosen : List ℕ) (k after : Kernel) where
   unfolding applied
   makes_file d x i n inode bytes number is none h =
       h ∙ ap (λ (it : Inode). set_name d x n (set_inode n it k)) (is ∙ ap File none) ∙ ap (λ (m : ℕ). set_name d x m (set_inode m (File []) k)) number
+
+  pub makes_fixed : (d : ℕ) (x : Name) (fixed copy : Fixed_content) (i n : ℕ) (inode : Inode) → n ≡ get_or chosen i 0 → inode ≡ Fixed copy → copy ≡ fixed
+      → after ≡ set_name d x n (set_inode n inode k) → after ≡ applied chosen (Make_fixed d x fixed i) k
+  unfolding applied
+  makes_fixed d x fixed copy i n inode number is same h =
+      h ∙ ap (λ (it : Inode). set_name d x n (set_inode n it k)) (is ∙ ap Fixed same) ∙ ap (λ (m : ℕ). set_name d x m (set_inode m (Fixed fixed) k)) number
 
   pub names_file : (d : ℕ) (x : Name) (n : ℕ) → after ≡ set_name d x n k → after ≡ applied chosen (Name_file d x n) k
   unfolding applied
@@ -58,6 +64,10 @@ module _ (chosen : List ℕ) (k after : Kernel) where
   pub sets_offset : (d offset : ℕ) → after ≡ set_offset d offset (get k.descriptions d) k → after ≡ applied chosen (Set_offset d offset) k
   unfolding applied
   sets_offset d offset h = h
+
+  pub sets_rights : (n : ℕ) (rights : Rights) → after ≡ set_rights n rights k → after ≡ applied chosen (Set_rights n rights) k
+  unfolding applied
+  sets_rights n rights h = h
 
   pub opens : (i : ℕ) (inode : Which) (mode : Mode) (pid f d n : ℕ) (it : Description) → d ≡ get_or chosen i 0 → n ≡ number chosen inode → it ≡ at_start n mode
       → after ≡ set_process pid (with_slot f d (process_of k pid)) (set_description d it k) → after ≡ applied chosen (Open_inode i inode mode pid f) k

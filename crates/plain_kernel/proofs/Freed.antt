@@ -4,7 +4,7 @@ use Rattle.std.specs.List.{AllByRecursion}
 use Rattle.std.specs.Prelude.{if◌then◌else◌}
 use Rattle.std.proofs.lemmas.List.{drop_more}
 use Rattle.model.specs.FiniteMap.{FinMap, get, remove}
-use Rattle.model.specs.State.{Kernel, Inode}
+use Rattle.model.specs.State.{Kernel, Inode, Rights}
 use Rattle.model.specs.Changes.{Edit, applied, is_held, is_reached}
 use Rattle.freeing_laws.specs.Counts.{free_description, free_inode, let_go, unnamed}
 use Rattle.freeing_laws.specs.Sweep.{all_freed, freed, free_descriptions, free_inodes, inode_in, inodes_of}
@@ -13,7 +13,7 @@ abbrev less_description : ℕ → Kernel → Kernel
 less_description d k = record k { descriptions = remove k.descriptions d }
 
 abbrev less_inode : ℕ → Kernel → Kernel
-less_inode n k = record k { inodes = remove k.inodes n }
+less_inode n k = record k { inodes = remove k.inodes n; rights = remove k.rights n }
 
 -- `a` is what the fields say, `k` the kernel that they are
 pub description_freed : (k after : Kernel) (d : ℕ) → is_held k d ≡ false → after ≡ record k { descriptions = remove k.descriptions d } → after ≡ free_description d k
@@ -24,10 +24,12 @@ pub description_kept : (k : Kernel) (d : ℕ) → is_held k d ≡ true → k ≡
 unfolding free_description
 description_kept k d held = sym (ap (λ b. if b then k else less_description d k) held)
 
-pub inode_left : (a k : Kernel) (n : ℕ) (m : FinMap nat_cmp Inode) → a ≡ k → m ≡ remove a.inodes n → record a { inodes = m } ≡ record k { inodes = remove k.inodes n }
-inode_left a k n m e is = ap (λ (x : FinMap nat_cmp Inode). record a { inodes = x }) is ∙ ap (less_inode n) e
+pub inode_left : (a k : Kernel) (n : ℕ) (m : FinMap nat_cmp Inode) (r : FinMap nat_cmp Rights) → a ≡ k → m ≡ remove a.inodes n → r ≡ remove a.rights n
+    → record a { inodes = m; rights = r } ≡ record k { inodes = remove k.inodes n; rights = remove k.rights n }
+inode_left a k n m r e is unset =
+    ap (λ (x : FinMap nat_cmp Inode). record a { inodes = x; rights = r }) is ∙ ap (λ (x : FinMap nat_cmp Rights). record a { inodes = remove a.inodes n; rights = x }) unset ∙ ap (less_inode n) e
 
-pub inode_freed : (k after : Kernel) (n : ℕ) → is_reached k n ≡ false → after ≡ record k { inodes = remove k.inodes n } → after ≡ free_inode n k
+pub inode_freed : (k after : Kernel) (n : ℕ) → is_reached k n ≡ false → after ≡ record k { inodes = remove k.inodes n; rights = remove k.rights n } → after ≡ free_inode n k
 unfolding free_inode
 inode_freed k after n free is = is ∙ sym (ap (λ b. if b then k else less_inode n k) free)
 

@@ -1,13 +1,17 @@
 -- What a write to one map of a kernel makes of it.
 use Rattle.std.proofs.Common.{◌≡◌, ℕ, [], Option, Some, None, MatchOption, Result, Ok, Err, IfOk, OnOk, nat_cmp, ap, ◌∙◌}
 use Rattle.model.specs.FiniteMap.{FinMap, get, insert, remove}
-use Rattle.model.specs.State.{Kernel, Inode, File, Description, Process}
-use Rattle.model.specs.Changes.{Mode, at_offset, at_start, open_at, process_of, set_description, set_inode, set_offset, set_process, with_slot, without_slot}
+use Rattle.model.specs.State.{Kernel, Inode, File, Description, Process, Rights}
+use Rattle.model.specs.Changes.{Mode, at_offset, at_start, open_at, process_of, set_description, set_inode, set_offset, set_process, set_rights, with_slot, without_slot}
 use Rattle.plain_kernel.proofs.Maps.{set_twice}
 
 -- `a` is what the fields say, `k` the kernel that they are
 pub inode_set : (a k : Kernel) (n : ℕ) (i : Inode) (m : FinMap nat_cmp Inode) → a ≡ k → m ≡ insert a.inodes n i → record a { inodes = m } ≡ set_inode n i k
 inode_set a k n i m e f = ap (λ (x : FinMap nat_cmp Inode). record a { inodes = x }) f ∙ ap (set_inode n i) e
+
+-- its rights
+pub rights_set : (a k : Kernel) (n : ℕ) (rights : Rights) (m : FinMap nat_cmp Rights) → a ≡ k → m ≡ insert a.rights n rights → record a { rights = m } ≡ set_rights n rights k
+rights_set a k n rights m e f = ap (λ (x : FinMap nat_cmp Rights). record a { rights = x }) f ∙ ap (set_rights n rights) e
 
 -- an inode that was taken out, and is set again
 pub inode_replaced : (k mid after : Kernel) (d : ℕ) (i j : Inode) → mid ≡ set_inode d (File []) k → after ≡ set_inode d i mid → i ≡ j → after ≡ set_inode d j k

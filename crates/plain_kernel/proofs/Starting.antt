@@ -2,7 +2,7 @@
 use Rattle.std.proofs.Common.{◌≡◌, ℕ, ◌+◌, ◌<◌, add-one, List, ◌∷◌, length, get_or, drop, nat_cmp, sym, ap, ◌∙◌}
 use Rattle.std.proofs.lemmas.List.{drop_more}
 use Rattle.model.specs.FiniteMap.{FinMap, empty, insert}
-use Rattle.model.specs.State.{Kernel, Inode, Directory, Description, Process}
+use Rattle.model.specs.State.{Kernel, Inode, Directory, Description, Process, Rights}
 use Rattle.model.specs.Moments.{Setup, start, with_processes}
 
 -- one process more
@@ -17,12 +17,13 @@ one_process ps i p level t m new low is none same made =
     ∙ ap (with_processes (i + 1) (drop (i + 1) ps)) (sym now)
 
 -- the state of these parts
-pub started : (root made : ℕ) (setup : Setup) (is : FinMap nat_cmp Inode) (ds : FinMap nat_cmp Description) (ps : FinMap nat_cmp Process)
-    → is ≡ insert empty root (Directory empty) → ds ≡ empty → ps ≡ with_processes 0 setup.priorities empty → made ≡ length setup.priorities
-    → ◌≡◌ {A = Kernel} (record { root = root; inodes = is; descriptions = ds; processes = ps; made = made; largest = setup.largest }) (start root setup)
-started root made setup is ds ps inodes none processes count = λ i. record {
+pub started : (root made : ℕ) (setup : Setup) (is : FinMap nat_cmp Inode) (rs : FinMap nat_cmp Rights) (ds : FinMap nat_cmp Description) (ps : FinMap nat_cmp Process)
+    → is ≡ insert empty root (Directory empty) → rs ≡ empty → ds ≡ empty → ps ≡ with_processes 0 setup.priorities empty → made ≡ length setup.priorities
+    → ◌≡◌ {A = Kernel} (record { root = root; inodes = is; rights = rs; descriptions = ds; processes = ps; made = made; largest = setup.largest }) (start root setup)
+started root made setup is rs ds ps inodes unset none processes count = λ i. record {
   root = root;
   inodes = inodes i;
+  rights = unset i;
   descriptions = none i;
   processes = processes i;
   made = count i;

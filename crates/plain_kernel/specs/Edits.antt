@@ -1,7 +1,7 @@
 -- Edits by what they change.
 use Rattle.std.specs.Prelude.{Bool, true, false, ◌+◌, ◌≤◌, length, ⊤}
 use Rattle.model.specs.Limits.{largest_file}
-use Rattle.model.specs.Changes.{Edit, Make_directory, Make_file, Name_file, Unname_file}
+use Rattle.model.specs.Changes.{Edit, Make_directory, Make_file, Make_fixed, Name_file, Unname_file}
 use Rattle.model.specs.Changes.{Unname_directory, Move, Set_offset, Open_inode, Make_pipe}
 use Rattle.model.specs.Changes.{Share_slot, Clear_slot, New_process, End_process, Put_bytes, Cut}
 
@@ -9,6 +9,7 @@ use Rattle.model.specs.Changes.{Share_slot, Clear_slot, New_process, End_process
 abbrev pub is_of_names : Edit → Bool
 is_of_names (Make_directory d name i) = true
 is_of_names (Make_file d name i) = true
+is_of_names (Make_fixed d name fixed i) = true
 is_of_names (Name_file d name n) = true
 is_of_names (Unname_file d name n) = true
 is_of_names (Unname_directory d name n) = true

@@ -7,8 +7,8 @@ ghost use Rattle.model.specs.State.{File as A_file, Pipe as A_pipe};
 ghost use Rattle.model.specs.State.{file_of, names_of_inode, pipe_of};
 ghost use Rattle.model.specs.Changes.{applied, at_start, clear_name, number, open_at};
 ghost use Rattle.model.specs.Changes.{or_new, process_of, set_description, set_inode, set_name};
-ghost use Rattle.model.specs.Changes.{set_offset, set_process, sized, with_slot, without_slot};
-ghost use Rattle.model.specs.Changes.{written, to_read, to_write};
+ghost use Rattle.model.specs.Changes.{set_offset, set_process, set_rights, sized, with_slot};
+ghost use Rattle.model.specs.Changes.{without_slot, written, to_read, to_write};
 ghost use Rattle.plain_kernel.specs.Edits.{EndsWithin, is_of_descriptions, is_of_names, is_of_processes};
 
 use crate::inode::{Inode, file_out, no_bytes, pipe_out};
@@ -17,7 +17,7 @@ use crate::names::Names;
 use crate::plain::{Description, PlainKernel, key_of};
 use crate::processes;
 use heap::Heap;
-use ids::{Bytes, Edit, Fd, Mode, Name, Num, Pid, Which};
+use ids::{Bytes, Edit, Fd, Mode, Name, Num, Pid, Rights, Which};
 use objects::FileData;
 use std::alloc::AllocError;
 use std::mem::replace;
@@ -142,6 +142,13 @@ impl PlainKernel {
         let inode = self.take_inode(heap, pipe)?;
         let all = pipe_out(heap, inode).followed_by(heap, bytes)?;
         self.set_inode(pipe, Inode::pipe(all))
+    }
+
+    // The permissions and the owner of an inode.
+    fn set_rights(&mut self, num: Num, rights: Rights) -> Result<(), AllocError>
+        ensures { OnOk result (self.new ≡ set_rights num rights self.old) }
+    {
+        self.rights.set(num, rights)
     }
 
     // A description's offset.
@@ -329,6 +336,15 @@ impl PlainKernel {
                 let inode = Inode::file(FileData::new(heap));
                 self.make(heap, *parent, name, made(chosen, *index as usize), inode)
             }
+            Edit::MakeFixed {
+                parent,
+                name,
+                fixed,
+                index,
+            } => {
+                let inode = Inode::fixed(fixed.try_clone()?);
+                self.make(heap, *parent, name, made(chosen, *index as usize), inode)
+            }
             Edit::NameFile { parent, name, file } => self.set_name(heap, *parent, name, *file),
             Edit::UnnameFile { parent, name, .. } => self.clear_name(heap, *parent, name),
             Edit::UnnameDirectory { parent, name, .. } => self.clear_name(heap, *parent, name),
@@ -347,7 +363,7 @@ impl PlainKernel {
         }
     }
 
-    // One edit that is not of names: of bytes, or of processes and descriptions.
+    // One edit that is not of names: of bytes or of rights, or of processes and descriptions.
     fn apply_to_bytes(&mut self, heap: Heap, edit: &Edit, chosen: &[Num]) -> Result<(), AllocError>
         requires within { EndsWithin edit.now }
         requires kind { is_of_names edit.now ≡ false }
@@ -363,6 +379,7 @@ impl PlainKernel {
             Edit::Cut { file, length, .. } => self.cut(heap, *file, *length as usize),
             Edit::Take { pipe, count } => self.take(heap, *pipe, *count as usize),
             Edit::Append { pipe, bytes } => self.append(heap, *pipe, bytes.as_slice()),
+            Edit::SetRights { inode, rights } => self.set_rights(*inode, *rights),
             _ => self.apply_to_processes(heap, edit, chosen),
         }
     }

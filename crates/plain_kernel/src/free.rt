@@ -80,9 +80,20 @@ impl PlainKernel {
     {
         for num in nums {
             if !self.is_reached(*num) {
-                self.inodes.remove(*num);
+                self.clear_inode(*num);
             }
         }
+    }
+
+    // A number stands for no inode any more, and no rights are set of it.
+    fn clear_inode(&mut self, num: Num)
+        ensures { self.new ≡ record self.old {
+          inodes = remove self.old.inodes num;
+          rights = remove self.old.rights num;
+        } }
+    {
+        self.inodes.remove(num);
+        let _rights = self.rights.remove(num);
     }
 
     // One edit, and what it lets go is freed.

@@ -5,14 +5,14 @@ ghost use Rattle.objects.specs.declared.run.TheConstants.{LARGEST_RUN};
 ghost use Rattle.model.specs.FiniteMap.{get, keys};
 ghost use Rattle.model.specs.Paths.{is_empty};
 ghost use Rattle.model.specs.State.{Inode, File as A_file, Directory as A_directory, mapped};
-ghost use Rattle.model.specs.State.{Pipe as A_pipe, kind, file_of_inode, names_of_inode};
-ghost use Rattle.model.specs.State.{pipe_of_inode};
+ghost use Rattle.model.specs.State.{Pipe as A_pipe, Fixed as A_fixed, kind, file_of_inode};
+ghost use Rattle.model.specs.State.{names_of_inode, pipe_of_inode, target_of_inode};
 ghost use Rattle.plain_kernel.specs.Counts.{count_at, times_given};
 
 use crate::names::Names;
 use crate::tree::Tree;
 use heap::Heap;
-use ids::{Bytes, Kind, Name, NameList, Num};
+use ids::{Bytes, Fixed, Kind, Name, NameList, Num};
 use objects::FileData;
 use std::alloc::AllocError;
 use std::marker::Model;
@@ -26,9 +26,11 @@ pub(crate) enum Content {
     Directory(Names),
     /// A pipe's bytes, oldest first.
     Pipe(Bytes),
+    /// What never changes.
+    Fixed(Fixed),
 }
 
-/// A file, a directory or a pipe.
+/// A file, a directory, a pipe, or what never changes: a symbolic link, a FIFO or a socket.
 #[derive(Drop)]
 pub(crate) struct Inode {
     content: Content,
@@ -71,6 +73,15 @@ impl Inode {
             content: Content::Pipe(bytes),
         }
     }
+
+    // What never changes.
+    pub(crate) fn fixed(fixed: Fixed) -> Inode
+        ensures { result ≡ A_fixed fixed }
+    {
+        Inode {
+            content: Content::Fixed(fixed),
+        }
+    }
 }
 
 // No bytes of a pipe. It takes no memory.
@@ -88,6 +99,7 @@ pub(crate) fn kind_in(inode: Option<&Inode>) -> Option<Kind>
         Content::File(_) => Some(Kind::File),
         Content::Directory(_) => Some(Kind::Dir),
         Content::Pipe(_) => Some(Kind::Pipe),
+        Content::Fixed(fixed) => Some(fixed.kind()),
     }
 }
 
@@ -100,6 +112,7 @@ pub(crate) fn given_in(inode: Option<&Inode>, name: &Name) -> Option<Num>
             Content::Directory(names) => names.get(name),
             Content::File(_) => None,
             Content::Pipe(_) => None,
+            Content::Fixed(_) => None,
         },
         None => None,
     }
@@ -115,6 +128,7 @@ pub(crate) fn names_in(heap: Heap, inode: Option<&Inode>) -> Result<NameList, Al
             Content::Directory(names) => names.names(heap),
             Content::File(_) => Ok(NameList::new(Vec::new(heap))),
             Content::Pipe(_) => Ok(NameList::new(Vec::new(heap))),
+            Content::Fixed(_) => Ok(NameList::new(Vec::new(heap))),
         },
         None => Ok(NameList::new(Vec::new(heap))),
     }
@@ -129,6 +143,7 @@ pub(crate) fn is_empty_in(inode: Option<&Inode>) -> bool
             Content::Directory(names) => names.is_empty(),
             Content::File(_) => true,
             Content::Pipe(_) => true,
+            Content::Fixed(_) => true,
         },
         None => true,
     }
@@ -143,6 +158,7 @@ pub(crate) fn size_in(inode: Option<&Inode>) -> u32
             Content::File(stored) => stored.len() as u32,
             Content::Directory(_) => 0,
             Content::Pipe(_) => 0,
+            Content::Fixed(_) => 0,
         },
         None => 0,
     }
@@ -169,6 +185,7 @@ pub(crate) fn read_in(
             }
             Content::Directory(_) => Ok(no_bytes(heap)),
             Content::Pipe(_) => Ok(no_bytes(heap)),
+            Content::Fixed(_) => Ok(no_bytes(heap)),
         },
         None => Ok(no_bytes(heap)),
     }
@@ -183,6 +200,22 @@ pub(crate) fn pipe_in(inode: Option<&Inode>) -> &[u8]
             Content::Pipe(bytes) => bytes.as_slice(),
             Content::File(_) => &[],
             Content::Directory(_) => &[],
+            Content::Fixed(_) => &[],
+        },
+        None => &[],
+    }
+}
+
+// The target of a symbolic link.
+pub(crate) fn target_in(inode: Option<&Inode>) -> &[u8]
+    ensures { result.now ≡ target_of_inode (option_copied inode.entry) }
+{
+    match inode {
+        Some(inode) => match &inode.content {
+            Content::Fixed(fixed) => fixed.target(),
+            Content::File(_) => &[],
+            Content::Directory(_) => &[],
+            Content::Pipe(_) => &[],
         },
         None => &[],
     }
@@ -197,6 +230,7 @@ pub(crate) fn names_out(heap: Heap, inode: Option<Inode>) -> Names
             Content::Directory(names) => names,
             Content::File(_) => Names::new(heap),
             Content::Pipe(_) => Names::new(heap),
+            Content::Fixed(_) => Names::new(heap),
         },
         None => Names::new(heap),
     }
@@ -211,6 +245,7 @@ pub(crate) fn file_out(heap: Heap, inode: Option<Inode>) -> FileData
             Content::File(stored) => stored,
             Content::Directory(_) => FileData::new(heap),
             Content::Pipe(_) => FileData::new(heap),
+            Content::Fixed(_) => FileData::new(heap),
         },
         None => FileData::new(heap),
     }
@@ -225,6 +260,7 @@ pub(crate) fn pipe_out(heap: Heap, inode: Option<Inode>) -> Bytes
             Content::Pipe(bytes) => bytes,
             Content::File(_) => no_bytes(heap),
             Content::Directory(_) => no_bytes(heap),
+            Content::Fixed(_) => no_bytes(heap),
         },
         None => no_bytes(heap),
     }
@@ -240,6 +276,7 @@ pub(crate) fn lose_all(counts: &mut Tree<usize>, inode: &Option<Inode>)
             Content::Directory(names) => names.lose_all(counts),
             Content::File(_) => (),
             Content::Pipe(_) => (),
+            Content::Fixed(_) => (),
         },
         None => (),
     }

@@ -17,6 +17,7 @@ fn news(edit: &Edit) -> usize
     match edit {
         Edit::MakeDirectory { .. } => 1,
         Edit::MakeFile { .. } => 1,
+        Edit::MakeFixed { .. } => 1,
         Edit::OpenInode { .. } => 1,
         Edit::MakePipe { .. } => 3,
         _ => 0,

@@ -11,12 +11,14 @@ ghost use Rattle.plain_kernel.specs.Counts.{given_by};
 
 use crate::descriptions::Descriptions;
 use crate::holders::Holders;
-use crate::inode::{given_in, is_empty_in, kind_in, names_in, pipe_in, read_in, size_in};
+use crate::inode::{
+    given_in, is_empty_in, kind_in, names_in, pipe_in, read_in, size_in, target_in,
+};
 use crate::inodes::Inodes;
 use crate::table::Table;
 use crate::tree::Tree;
 use heap::Heap;
-use ids::{Bytes, DESCRIPTORS, Fd, Kind, Name, NameList, Num, PIPE_CAPACITY, Pid, Slot};
+use ids::{Bytes, DESCRIPTORS, Fd, Kind, Name, NameList, Num, PIPE_CAPACITY, Pid, Rights, Slot};
 use look::Look;
 use std::alloc::AllocError;
 use std::marker::Model;
@@ -84,6 +86,8 @@ impl Model for Process {
 pub struct PlainKernel {
     pub(crate) root: Num,
     pub(crate) inodes: Inodes,
+    // Those that were set.
+    pub(crate) rights: Tree<Rights>,
     pub(crate) descriptions: Descriptions,
     pub(crate) processes: Tree<Process>,
     pub(crate) holders: Holders,
@@ -96,6 +100,7 @@ impl Drop for PlainKernel {
         let PlainKernel {
             root: _,
             inodes: _,
+            rights: _,
             descriptions: _,
             processes: _,
             holders: _,
@@ -116,6 +121,7 @@ impl Model for PlainKernel {
     ghost view = { λ k. record {
       root = k.root;
       inodes = k.inodes;
+      rights = k.rights;
       descriptions = k.descriptions;
       processes = k.processes;
       made = k.made;
@@ -285,6 +291,17 @@ impl Look for PlainKernel {
     fn fit(&self, pipe: Num, count: usize) -> Result<u32, AllocError> {
         let room = PIPE_CAPACITY.saturating_sub(pipe_in(self.inodes.get(pipe)).len());
         Ok(count.min(room) as u32)
+    }
+
+    fn target(&self, heap: Heap, link: Num) -> Result<Bytes, AllocError> {
+        Bytes::copy(heap, target_in(self.inodes.get(link)))
+    }
+
+    fn rights(&self, inode: Num) -> Rights {
+        match self.rights.get(inode) {
+            Some(rights) => *rights,
+            None => Rights::first(kind_in(self.inodes.get(inode))),
+        }
     }
 
     fn slot(&self, pid: Pid, fd: Fd) -> Option<Slot> {

@@ -66,15 +66,19 @@ impl PlainKernel {
         let made = small(priorities.len())?;
         let processes = first_processes(heap, priorities)?;
         match first_inodes(heap, root) {
-            Ok(inodes) => Ok(PlainKernel {
-                root,
-                inodes,
-                descriptions: Descriptions::new(heap),
-                processes,
-                holders: Holders::new(heap),
-                made,
-                largest,
-            }),
+            Ok(inodes) => {
+                let rights = Tree::new(heap);
+                Ok(PlainKernel {
+                    root,
+                    inodes,
+                    rights,
+                    descriptions: Descriptions::new(heap),
+                    processes,
+                    holders: Holders::new(heap),
+                    made,
+                    largest,
+                })
+            }
             Err(refused) => {
                 drop(processes);
                 Err(refused)

@@ -7,6 +7,7 @@ use Rattle.std.proofs.lemmas.Cmp.{tied_itself}
 use Rattle.std.proofs.lemmas.Map.Lookups.{exact_bytes}
 use Rattle.ids.specs.Order.{aspect_code, aspect_cmp, aspect_cmp_total}
 use Rattle.model.specs.Aspects.{Aspect, Entry, Names, Size, Block, Links, Ends, Offset, Front, Back}
+use Rattle.model.specs.Aspects.{Target, Rights}
 use Rattle.model.specs.Steps.{Touch}
 use Rattle.model.specs.Clashes.{same_aspect}
 use Rattle.records.specs.Codes.{is_touch}
@@ -24,7 +25,9 @@ by_part o p b x =
     else if p == 5 then Ends o
     else if p == 6 then Offset o
     else if p == 7 then Front o
-    else Back o
+    else if p == 8 then Back o
+    else if p == 9 then Target o
+    else Rights o
 
 abbrev aspect_from : List ℕ → Aspect
 aspect_from (o ∷ p ∷ b ∷ x) = by_part o p b x
@@ -40,6 +43,8 @@ read_back (Ends p) = refl
 read_back (Offset d) = refl
 read_back (Front p) = refl
 read_back (Back p) = refl
+read_back (Target p) = refl
+read_back (Rights p) = refl
 
 tied_from : (o : Ordering) → is_eq o ≡ true → o ≡ Equal
 tied_from Less h = cc

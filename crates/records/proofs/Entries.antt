@@ -16,6 +16,7 @@ use Rattle.std.proofs.lemmas.Cmp.{tied_itself, nat_cmp_total}
 use Rattle.std.proofs.lemmas.List.Folds.{list_any-append}
 use Rattle.ids.specs.Order.{object_of, kind_of, block_of, name_of, aspect_cmp}
 use Rattle.model.specs.Aspects.{Aspect, Entry, Names, Size, Block, Links, Ends, Offset, Front, Back}
+use Rattle.model.specs.Aspects.{Target, Rights}
 use Rattle.model.specs.Steps.{Touch}
 use Rattle.model.specs.Modes.{writes_entry}
 use Rattle.records.specs.Codes.{is_touch}
@@ -178,6 +179,8 @@ by_kind d a false = and_false ((d == object_of a) && (kind_of a == 0)) ∙ sym (
   none_read (Offset e) = refl
   none_read (Front e) = refl
   none_read (Back e) = refl
+  none_read (Target e) = refl
+  none_read (Rights e) = refl
 by_kind d (Names e) true = and_true ((d == e) && false) ∙ and_false (d == e)
 by_kind d (Size e) true = and_true ((d == e) && false) ∙ and_false (d == e)
 by_kind d (Block e i) true = and_true ((d == e) && false) ∙ and_false (d == e)
@@ -186,6 +189,8 @@ by_kind d (Ends e) true = and_true ((d == e) && false) ∙ and_false (d == e)
 by_kind d (Offset e) true = and_true ((d == e) && false) ∙ and_false (d == e)
 by_kind d (Front e) true = and_true ((d == e) && false) ∙ and_false (d == e)
 by_kind d (Back e) true = and_true ((d == e) && false) ∙ and_false (d == e)
+by_kind d (Target e) true = and_true ((d == e) && false) ∙ and_false (d == e)
+by_kind d (Rights e) true = and_true ((d == e) && false) ∙ and_false (d == e)
 
 abbrev is_entry : ℕ → Aspect → Bool
 is_entry d a = range_contains aspect_cmp (Included (Entry d [])) (Excluded (Names d)) a

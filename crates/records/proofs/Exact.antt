@@ -7,6 +7,7 @@ use Rattle.std.proofs.lemmas.Bool.{false≢true, eqb-true, eq-eqb, and_parts}
 use Rattle.std.proofs.lemmas.Cmp.{tied_itself}
 use Rattle.std.proofs.lemmas.Map.Lookups.{exact_bytes}
 use Rattle.model.specs.Aspects.{Aspect, Entry, Names, Size, Block, Links, Ends, Offset, Front, Back}
+use Rattle.model.specs.Aspects.{Target, Rights}
 use Rattle.model.specs.Paths.{same_name}
 use Rattle.model.specs.Steps.{Touch}
 use Rattle.model.specs.Clashes.{same_aspect}
@@ -35,7 +36,11 @@ aspect_from o p b x =
     else if p == 14 then touch_on (Front o) true
     else if p == 15 then touch_on (Front o) false
     else if p == 16 then touch_on (Back o) true
-    else touch_on (Back o) false
+    else if p == 17 then touch_on (Back o) false
+    else if p == 18 then touch_on (Target o) true
+    else if p == 19 then touch_on (Target o) false
+    else if p == 20 then touch_on (Rights o) true
+    else touch_on (Rights o) false
 
 abbrev touch_from : List ℕ → Touch
 touch_from (o ∷ p ∷ b ∷ x) = aspect_from o p b x
@@ -60,6 +65,10 @@ read_back (Front p) true = refl
 read_back (Front p) false = refl
 read_back (Back p) true = refl
 read_back (Back p) false = refl
+read_back (Target p) true = refl
+read_back (Target p) false = refl
+read_back (Rights p) true = refl
+read_back (Rights p) false = refl
 
 tied_from : (o : Ordering) → is_eq o ≡ true → o ≡ Equal
 tied_from Less h = cc
@@ -93,6 +102,8 @@ aspect_itself (Ends p) = eq-eqb p p refl
 aspect_itself (Offset d) = eq-eqb d d refl
 aspect_itself (Front p) = eq-eqb p p refl
 aspect_itself (Back p) = eq-eqb p p refl
+aspect_itself (Target p) = eq-eqb p p refl
+aspect_itself (Rights p) = eq-eqb p p refl
 
 same_name_is : (x y : List ℕ) → same_name x y ≡ true → x ≡ y
 same_name_is [] [] h = refl
@@ -110,6 +121,8 @@ aspect_is (Ends d) (Ends e) h = ap Ends (eqb-true d e h)
 aspect_is (Offset d) (Offset e) h = ap Offset (eqb-true d e h)
 aspect_is (Front d) (Front e) h = ap Front (eqb-true d e h)
 aspect_is (Back d) (Back e) h = ap Back (eqb-true d e h)
+aspect_is (Target d) (Target e) h = ap Target (eqb-true d e h)
+aspect_is (Rights d) (Rights e) h = ap Rights (eqb-true d e h)
 aspect_is a b h = absurd (false≢true h)
 
 alike_itself : (w : Bool) → alike w w ≡ true

@@ -6,6 +6,7 @@ use Rattle.std.proofs.lemmas.List.Folds.{list_any-append}
 use Rattle.std.proofs.lemmas.Cmp.{nat_eq_equiv}
 use Rattle.ids.specs.Order.{aspect_cmp}
 use Rattle.model.specs.Aspects.{Aspect, Entry, Names, Size, Block, Links, Ends, Offset, Front, Back}
+use Rattle.model.specs.Aspects.{Target, Rights}
 use Rattle.model.specs.Steps.{Touch}
 use Rattle.model.specs.Modes.{writes_entry}
 use Rattle.model.specs.Clashes.{same_aspect, names_against, clash}
@@ -56,6 +57,10 @@ either_way (Front n) w (Names e) true = refl
 either_way (Front n) w (Names e) false = refl
 either_way (Back n) w (Names e) true = refl
 either_way (Back n) w (Names e) false = refl
+either_way (Target n) w (Names e) true = refl
+either_way (Target n) w (Names e) false = refl
+either_way (Rights n) w (Names e) true = refl
+either_way (Rights n) w (Names e) false = refl
 either_way a w b v = refl
 
 names_read : (d : ℕ) (x : List ℕ) (b : Aspect) (v : Bool) → (same_aspect (Names d) b && alike false v) ≡ by_names (Entry d x) true b v
@@ -141,6 +146,8 @@ other_aspect (Ends p) w v = refl
 other_aspect (Offset d) w v = refl
 other_aspect (Front p) w v = refl
 other_aspect (Back p) w v = refl
+other_aspect (Target p) w v = refl
+other_aspect (Rights p) w v = refl
 
 names_elsewhere : (a : Aspect) (w : Bool) (b : Aspect) (v : Bool) → same_aspect a b ≡ true → by_names a w b v ≡ false
 names_elsewhere a w b v h = ap (λ c. by_names a w c v) (sym (aspect_is a b h)) ∙ other_aspect a w v

@@ -6,6 +6,7 @@ use Rattle.std.proofs.lemmas.List.Folds.{list_any-append}
 use Rattle.model.specs.Steps.{Touch}
 use Rattle.model.specs.Clashes.{same_aspect, has_touch, clash, clashes, any_clash, with_name, written_name, least_written, by_names, entry_or, clashing_touch, doomed_touch}
 use Rattle.model.specs.Aspects.{Aspect, Entry, Names, Size, Block, Links, Ends, Offset, Front, Back}
+use Rattle.model.specs.Aspects.{Target, Rights}
 use Rattle.records.specs.Touches.{with_touch, with_touches, distinct}
 use Rattle.records.specs.Index.{has}
 use Rattle.records.proofs.Exact.{touch_from_test}
@@ -141,6 +142,8 @@ by_names_distinct (Ends p) us = refl
 by_names_distinct (Offset d) us = refl
 by_names_distinct (Front p) us = refl
 by_names_distinct (Back p) us = refl
+by_names_distinct (Target p) us = refl
+by_names_distinct (Rights p) us = refl
 
 abbrev told : Touch → Bool → Bool → Touch → Touch
 told t written read rest =

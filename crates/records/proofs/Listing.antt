@@ -6,6 +6,7 @@ use Rattle.std.specs.BTreeSet.{BTreeSet, contains}
 use Rattle.std.proofs.lemmas.Bool.{eq-eqb, false≢true}
 use Rattle.ids.specs.Order.{aspect_cmp}
 use Rattle.model.specs.Aspects.{Aspect, Entry, Names, Size, Block, Links, Ends, Offset, Front, Back}
+use Rattle.model.specs.Aspects.{Target, Rights}
 use Rattle.model.specs.Steps.{Touch}
 use Rattle.records.specs.Codes.{is_touch}
 use Rattle.records.specs.Groups.{among, with_pid, without_pid}
@@ -60,6 +61,8 @@ is_write a false h = absurd (false≢true (sym (never a) ∙ h)) where
   never (Offset d) = refl
   never (Front p) = refl
   never (Back p) = refl
+  never (Target p) = refl
+  never (Rights p) = refl
 
 pub listed_left : (s n : Index) (t : Touch) (p : ℕ) → Leaves p t s n → ((a : Aspect) → contains aspect_cmp s.written a ≡ true → (users_on n (touch_on a true) ≡ [] → ⊥) → contains aspect_cmp n.written a ≡ true) → Lists s → Lists n
 listed_left s n t p leaves keeps listed m e h = keeps m.touch.aspect

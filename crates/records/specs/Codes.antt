@@ -5,6 +5,7 @@ use Rattle.std.specs.declared.cmp.Ordering.{Ordering}
 use Rattle.std.specs.Cmp.Lexicographic.{slice_cmp}
 pub use Rattle.ids.specs.Order.{object_of, block_of, name_of}
 use Rattle.model.specs.Aspects.{Aspect, Entry, Names, Size, Block, Links, Ends, Offset, Front, Back}
+use Rattle.model.specs.Aspects.{Target, Rights}
 use Rattle.model.specs.Steps.{Touch}
 
 abbrev pub part_of : Aspect → Bool → ℕ
@@ -26,6 +27,10 @@ part_of (Front p) true = 14
 part_of (Front p) false = 15
 part_of (Back p) true = 16
 part_of (Back p) false = 17
+part_of (Target n) true = 18
+part_of (Target n) false = 19
+part_of (Rights n) true = 20
+part_of (Rights n) false = 21
 
 -- a touch as a list of numbers
 abbrev pub code : Touch → List ℕ

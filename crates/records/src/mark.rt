@@ -52,6 +52,10 @@ fn part_of(aspect: &Aspect, write: bool) -> u8
         (Aspect::Front(_), false) => 15,
         (Aspect::Back(_), true) => 16,
         (Aspect::Back(_), false) => 17,
+        (Aspect::Target(_), true) => 18,
+        (Aspect::Target(_), false) => 19,
+        (Aspect::Rights(_), true) => 20,
+        (Aspect::Rights(_), false) => 21,
     }
 }
 

@@ -6,8 +6,8 @@ use Rattle.std.specs.Ordering.{eq_by_cmp}
 use Rattle.std.specs.Cmp.Lexicographic.{nat_list_cmp_total}
 use Rattle.std.proofs.lemmas.Bool.{cases_eq}
 use Rattle.model.specs.FiniteMap.{get, empty, insert, remove, get-empty, get-insert, get-remove}
-use Rattle.model.specs.State.{Name, name_cmp, Kernel, Inode, File, Directory, Pipe, Description, names_of_inode, names_of, file_of, pipe_of}
-use Rattle.model.specs.Changes.{Edit, There, Made, Mode, Make_directory, Make_file, Name_file, Unname_file, Unname_directory, Move, Put_bytes, Cut, Take, Append, Set_offset, Open_inode, Make_pipe, Share_slot, Clear_slot, New_process, End_process, number, sized, written, set_inode, set_name, clear_name, set_offset, set_description, at_start, open_at, to_read, to_write, is_held, applied, all_applied, tidy}
+use Rattle.model.specs.State.{Name, name_cmp, Kernel, Inode, File, Directory, Pipe, Fixed, Fixed_content, Description, names_of_inode, names_of, file_of, pipe_of}
+use Rattle.model.specs.Changes.{Edit, There, Made, Mode, Make_directory, Make_file, Make_fixed, Name_file, Unname_file, Unname_directory, Move, Put_bytes, Cut, Take, Append, Set_offset, Set_rights, Open_inode, Make_pipe, Share_slot, Clear_slot, New_process, End_process, number, sized, written, set_inode, set_name, clear_name, set_offset, set_description, at_start, open_at, to_read, to_write, is_held, applied, all_applied, tidy}
 use Rattle.model.specs.Moments.{Setup, start}
 use Rattle.model.proofs.Laws.{get_same, get_other}
 use Rattle.call_laws.proofs.Laws.{empty_gives, get_tidy, reached, retained_some, some_same}
@@ -54,6 +54,10 @@ module _ (root : ℕ) where
   unfolding Unnamed
   pipe_put n bytes k h = inode_put n (Pipe bytes) k h no_names
 
+  fixed_put : (n : ℕ) (fixed : Fixed_content) (k : Kernel) → IsApart root k → IsApart root (set_inode n (Fixed fixed) k)
+  unfolding Unnamed
+  fixed_put n fixed k h = inode_put n (Fixed fixed) k h no_names
+
   directory_put : (n : ℕ) (k : Kernel) → IsApart root k → IsApart root (set_inode n (Directory empty) k)
   unfolding Unnamed
   directory_put n k h = inode_put n (Directory empty) k h no_names
@@ -98,6 +102,7 @@ module _ (root : ℕ) where
   unfolding applied
   edit_keeps chosen k (Make_directory d x i) away low give h = name_put d x (number chosen (Made i)) (set_inode (number chosen (Made i)) (Directory empty) k) (at_place root chosen i away low) (directory_put (number chosen (Made i)) k h)
   edit_keeps chosen k (Make_file d x i) away low give h = name_put d x (number chosen (Made i)) (set_inode (number chosen (Made i)) (File []) k) (at_place root chosen i away low) (bytes_put (number chosen (Made i)) [] k h)
+  edit_keeps chosen k (Make_fixed d x fixed i) away low give h = name_put d x (number chosen (Made i)) (set_inode (number chosen (Made i)) (Fixed fixed) k) (at_place root chosen i away low) (fixed_put (number chosen (Made i)) fixed k h)
   edit_keeps chosen k (Name_file d x n) away low give h = name_put d x n k give h
   edit_keeps chosen k (Unname_file d x n) away low give h = name_cleared d x k h
   edit_keeps chosen k (Unname_directory d x n) away low give h = name_cleared d x k h
@@ -107,6 +112,7 @@ module _ (root : ℕ) where
   edit_keeps chosen k (Take p count) away low give h = pipe_put p (drop count (pipe_of k p)) k h
   edit_keeps chosen k (Append p bytes) away low give h = pipe_put p (pipe_of k p ++ bytes) k h
   edit_keeps chosen k (Set_offset d place) away low give h = offset_put d place (get k.descriptions d) k refl h
+  edit_keeps chosen k (Set_rights n set) away low give h = record { unnamed = h.unnamed; unopened = h.unopened }
   edit_keeps chosen k (Open_inode i (There n) mode pid fd) away low give h = opened (number chosen (Made i)) n mode pid fd k give h
   edit_keeps chosen k (Open_inode i (Made j) mode pid fd) away low give h = opened (number chosen (Made i)) (number chosen (Made j)) mode pid fd k (at_place root chosen j away low.1) h
   edit_keeps chosen k (Make_pipe i pid reader writer) away low give h =

@@ -2,8 +2,8 @@
 use Rattle.std.proofs.Common.{◌≡◌, ◌≢◌, ℕ, cond, List, [], ◌∷◌, ◌++◌, drop, Option, Some, None, refl, sym, ap, subst, ◌∙◌}
 use Rattle.std.specs.List.{AllByRecursion}
 use Rattle.model.specs.FiniteMap.{get, empty, insert, remove}
-use Rattle.model.specs.State.{Kernel, Inode, File, Directory, Pipe, Description, names_of, file_of, pipe_of}
-use Rattle.model.specs.Changes.{Edit, Make_directory, Make_file, Name_file, Unname_file, Unname_directory, Move, Put_bytes, Cut, Take, Append, Set_offset, Open_inode, Make_pipe, Share_slot, Clear_slot, New_process, End_process, number, Made, sized, written, set_inode, set_name, clear_name, set_offset, applied, all_applied, tidy}
+use Rattle.model.specs.State.{Kernel, Inode, File, Directory, Pipe, Fixed, Description, names_of, file_of, pipe_of}
+use Rattle.model.specs.Changes.{Edit, Make_directory, Make_file, Make_fixed, Name_file, Unname_file, Unname_directory, Move, Put_bytes, Cut, Take, Append, Set_offset, Set_rights, Open_inode, Make_pipe, Share_slot, Clear_slot, New_process, End_process, number, Made, sized, written, set_inode, set_name, clear_name, set_offset, applied, all_applied, tidy}
 use Rattle.model.specs.Steps.{edits, IsNowhere, Item, Run}
 use Rattle.model.specs.Moments.{Setup, start}
 use Rattle.model.proofs.Laws.{get_same}
@@ -32,6 +32,7 @@ module _ (root : ℕ) where
   unfolding applied
   edit_keeps chosen k (Make_directory d x i) h = name_put d x (number chosen (Made i)) (set_inode (number chosen (Made i)) (Directory empty) k) (inode_put (number chosen (Made i)) (Directory empty) k h)
   edit_keeps chosen k (Make_file d x i) h = name_put d x (number chosen (Made i)) (set_inode (number chosen (Made i)) (File []) k) (inode_put (number chosen (Made i)) (File []) k h)
+  edit_keeps chosen k (Make_fixed d x fixed i) h = name_put d x (number chosen (Made i)) (set_inode (number chosen (Made i)) (Fixed fixed) k) (inode_put (number chosen (Made i)) (Fixed fixed) k h)
   edit_keeps chosen k (Name_file d x n) h = name_put d x n k h
   edit_keeps chosen k (Unname_file d x n) h = name_cleared d x k h
   edit_keeps chosen k (Unname_directory d x n) h = name_cleared d x k h
@@ -41,6 +42,7 @@ module _ (root : ℕ) where
   edit_keeps chosen k (Take p count) h = inode_put p (Pipe (drop count (pipe_of k p))) k h
   edit_keeps chosen k (Append p bytes) h = inode_put p (Pipe (pipe_of k p ++ bytes)) k h
   edit_keeps chosen k (Set_offset d place) h = offset_put d place (get k.descriptions d) k h
+  edit_keeps chosen k (Set_rights n set) h = record { is = h.is; there = h.there }
   edit_keeps chosen k (Open_inode i inode mode pid fd) h = record { is = h.is; there = h.there }
   edit_keeps chosen k (Make_pipe i pid reader writer) h =
       let made : HasRoot root (set_inode (number chosen (Made i)) (Pipe []) k) = inode_put (number chosen (Made i)) (Pipe []) k h in

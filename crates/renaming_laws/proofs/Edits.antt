@@ -5,8 +5,8 @@ use Rattle.std.specs.Cmp.{nat_cmp_total}
 use Rattle.std.specs.Cmp.Lexicographic.{nat_list_cmp_total}
 use Rattle.std.proofs.lemmas.List.{get_or-map}
 use Rattle.model.specs.FiniteMap.{get, empty, insert, remove, nat_cmp-IsAntisymmetric}
-use Rattle.model.specs.State.{Name, Kernel, Inode, File, Directory, Pipe, Description, Process, mapped, names_of, file_of, pipe_of}
-use Rattle.model.specs.Changes.{Which, There, Made, Mode, Edit, Make_directory, Make_file, Name_file, Unname_file, Unname_directory, Move, Put_bytes, Cut, Take, Append, Set_offset, Open_inode, Make_pipe, Share_slot, Clear_slot, New_process, End_process, number, sized, written, set_inode, set_name, clear_name, set_process, set_offset, process_of, with_slot, without_slot, at_start, set_description, open_at, to_read, to_write, applied, all_applied, is_held, is_reached, without_descriptions, without_inodes, tidy}
+use Rattle.model.specs.State.{Name, Kernel, Inode, File, Directory, Pipe, Fixed, Description, Process, Rights, mapped, names_of, file_of, pipe_of}
+use Rattle.model.specs.Changes.{Which, There, Made, Mode, Edit, Make_directory, Make_file, Make_fixed, Name_file, Unname_file, Unname_directory, Move, Put_bytes, Cut, Take, Append, Set_offset, Set_rights, Open_inode, Make_pipe, Share_slot, Clear_slot, New_process, End_process, number, sized, written, set_inode, set_name, clear_name, set_process, set_offset, set_rights, process_of, with_slot, without_slot, at_start, set_description, open_at, to_read, to_write, applied, all_applied, is_held, is_reached, without_descriptions, without_inodes, tidy}
 use Rattle.model.proofs.Laws.{name_exact}
 use Rattle.renaming_laws.specs.Renaming.{IsRenaming, renamed_inode, renamed_description, renamed_process, renamed}
 use Rattle.renaming_laws.specs.Renamed.{renamed_which, renamed_edit}
@@ -65,6 +65,9 @@ module _ (f : ℕ → ℕ) (r : IsRenaming f) where
   offset_set d place None k = refl
   offset_set d place (Some old) k = description_set d (record old { offset = place }) k
 
+  rights_set : (n : ℕ) (set : Rights) (k : Kernel) → set_rights (f n) set (renamed f k) ≡ renamed f (set_rights n set k)
+  rights_set n set k = λ i. record (renamed f k) { rights = sym (renamed-insert nat_cmp_total nat_cmp-IsAntisymmetric f r.again (λ (set : Rights). set) k.rights n set) i }
+
   opened : (d d' n n' : ℕ) (mode : Mode) (pid fd : ℕ) (k : Kernel) → d' ≡ f d → n' ≡ f n → open_at d' n' mode pid fd (renamed f k) ≡ renamed f (open_at d n mode pid fd k)
   opened d d' n n' mode pid fd k is_d is_n =
       ap₂ (λ (d : ℕ) (n : ℕ). open_at d n mode pid fd (renamed f k)) is_d is_n
@@ -76,6 +79,7 @@ module _ (f : ℕ → ℕ) (r : IsRenaming f) where
   edit_renamed k chosen (Make_directory d x i) h =
       named_new d x (get_or chosen i 0) (get_or (map f chosen) i 0) (Directory empty) (Directory empty) k (number_at chosen (Made i) h) (ap Directory (sym (renamed-empty nat_list_cmp_total name_exact (λ x. x) (λ x. refl) f)))
   edit_renamed k chosen (Make_file d x i) h = named_new d x (get_or chosen i 0) (get_or (map f chosen) i 0) (File []) (File []) k (number_at chosen (Made i) h) refl
+  edit_renamed k chosen (Make_fixed d x fixed i) h = named_new d x (get_or chosen i 0) (get_or (map f chosen) i 0) (Fixed fixed) (Fixed fixed) k (number_at chosen (Made i) h) refl
   edit_renamed k chosen (Name_file d x n) h = name_set d x n k
   edit_renamed k chosen (Unname_file d x n) h = name_cleared d x k
   edit_renamed k chosen (Unname_directory d x n) h = name_cleared d x k
@@ -85,6 +89,7 @@ module _ (f : ℕ → ℕ) (r : IsRenaming f) where
   edit_renamed k chosen (Take p count) h = ap (λ old. set_inode (f p) (Pipe (drop count old)) (renamed f k)) (pipe_at f r k p) ∙ inode_set p (Pipe (drop count (pipe_of k p))) k
   edit_renamed k chosen (Append p bytes) h = ap (λ old. set_inode (f p) (Pipe (old ++ bytes)) (renamed f k)) (pipe_at f r k p) ∙ inode_set p (Pipe (pipe_of k p ++ bytes)) k
   edit_renamed k chosen (Set_offset d place) h = ap (λ o. set_offset (f d) place o (renamed f k)) (description_at f r k d) ∙ offset_set d place (get k.descriptions d) k
+  edit_renamed k chosen (Set_rights n set) h = rights_set n set k
   edit_renamed k chosen (Open_inode i inode mode pid fd) h =
       opened (number chosen (Made i)) (number (map f chosen) (Made i)) (number chosen inode) (number (map f chosen) (renamed_which f inode)) mode pid fd k (number_at chosen (Made i) h.0) (number_at chosen inode h.1)
   edit_renamed k chosen (Make_pipe i pid reader writer) h =
@@ -124,7 +129,10 @@ module _ (f : ℕ → ℕ) (r : IsRenaming f) where
   descriptions_tidied k = λ i. record (renamed f k) { descriptions = sym (renamed-retain_keys nat_cmp_total nat_cmp-IsAntisymmetric f r.again (renamed_description f) k.descriptions (is_held k) (is_held (renamed f k)) (held_at k)) i }
 
   inodes_tidied : (k : Kernel) → without_inodes (renamed f k) ≡ renamed f (without_inodes k)
-  inodes_tidied k = λ i. record (renamed f k) { inodes = sym (renamed-retain_keys nat_cmp_total nat_cmp-IsAntisymmetric f r.again (renamed_inode f) k.inodes (is_reached k) (is_reached (renamed f k)) (reached_at k)) i }
+  inodes_tidied k = λ i. record (renamed f k) {
+    inodes = sym (renamed-retain_keys nat_cmp_total nat_cmp-IsAntisymmetric f r.again (renamed_inode f) k.inodes (is_reached k) (is_reached (renamed f k)) (reached_at k)) i;
+    rights = sym (renamed-retain_keys nat_cmp_total nat_cmp-IsAntisymmetric f r.again (λ (set : Rights). set) k.rights (is_reached k) (is_reached (renamed f k)) (reached_at k)) i;
+  }
 
   pub tidy_renamed : (k : Kernel) → tidy (renamed f k) ≡ renamed f (tidy k)
   unfolding tidy

@@ -1,17 +1,17 @@
 -- Of all calls only the status of the path `/` tells the root, and no edit gives it to a name or to a description.
 use Rattle.std.proofs.Common.{◌≡◌, ◌≢◌, ◌⊎◌, ℕ, ◌+◌, Bool, true, false, not, ◌&&◌, ◌||◌, nat_lt, nat_le, ◌==◌, if◌then◌else◌, ℤ, pos, negsuc, ◌+ℤ◌, List, [], ◌∷◌, ◌++◌, map, length, min, Option, Some, None, Result, Ok, Err, IfOk, refl, sym, ap, subst, ◌∙◌, inl, inr, eqb-true}
-use Rattle.std.specs.List.{AllByRecursion}
+use Rattle.std.specs.List.{AllByRecursion, list_any}
 use Rattle.std.specs.Cmp.{nat_cmp_total}
 use Rattle.ids.specs.Flags.{is_reading, is_writing, is_creating, is_exclusive, is_truncating}
 use Rattle.model.specs.FiniteMap.{get, entries}
-use Rattle.model.specs.State.{Name, Kind, A_file, A_directory, A_pipe, Kernel, Description, mapped, kind_of, names_of, entry_of}
-use Rattle.model.specs.Plan.{Errno, EAGAIN, EBADF, EBUSY, EEXIST, EFBIG, EINVAL, EISDIR, ENAMETOOLONG, ENOENT, ENOTDIR, ENOTEMPTY, EPERM, EPIPE, ESPIPE, Look, List_names, Read_pipe, Count_ends, Find_offset, Read_file, Fit, Plan, Give, given, ◌>>=◌, ◌>>◌, ask, refuse_if, or_refuse, answer}
+use Rattle.model.specs.State.{Name, Kind, A_file, A_directory, A_pipe, A_link, A_fifo, A_socket, Kernel, Description, mapped, kind_of, rights_of, names_of, entry_of}
+use Rattle.model.specs.Plan.{Errno, EAGAIN, EBADF, EBUSY, EEXIST, EFBIG, EINVAL, EISDIR, ELOOP, ENXIO, ENAMETOOLONG, ENOENT, ENOTDIR, ENOTEMPTY, EPERM, EPIPE, ESPIPE, Look, List_names, Read_pipe, Count_ends, Find_offset, Read_file, Fit, Plan, Give, given, ◌>>=◌, ◌>>◌, ask, refuse_if, or_refuse, answer}
 use Rattle.model.specs.Paths.{is_empty, is_below, is_no_name, in_front, pieces, with_first, names_in, names_behind, absolute_names, path_names}
 use Rattle.model.specs.Limits.{path_limit, name_limit}
-use Rattle.model.specs.Walks.{told, parsed, look, walk, Last, last, last_of, Place, is_directory}
+use Rattle.model.specs.Walks.{told, parsed, look, walk, Last, last, last_of, Place, is_directory, is_link}
 use Rattle.model.specs.Changes.{There, Open_inode, Set_offset, process_of}
-use Rattle.model.specs.Calls.{OpenFlags, Call, Open, Close, Read, Pread, Write, Pwrite, Lseek, Ftruncate, Truncate, Stat, Fstat, Link, Unlink, Rename, Mkdir, Rmdir, List_directory, Dup, Dup2, Open_pipe, Fork, Exit, Descriptor, Bytes, Slot, Own, slot_of, own}
-use Rattle.model.specs.Plans.{Change, changed, free, first_of_free, slot, is_pipe, status, mode, cut_to, opened, read_pipe, read_some, place_to_write, write_some, offset_named, sought, base, moved, replaced_by_name, absent, duplicated, piped, forked, most_moved, whole_write, most_processes}
+use Rattle.model.specs.Calls.{OpenFlags, Call, Open, Close, Read, Pread, Write, Pwrite, Lseek, Ftruncate, Truncate, Stat, Fstat, Link, Unlink, Rename, Mkdir, Rmdir, List_directory, Symlink, Readlink, Lstat, Mknod, Chmod, Chown, Fchmod, Fchown, Dup, Dup2, Open_pipe, Fork, Exit, Descriptor, Bytes, Slot, Own, slot_of, own}
+use Rattle.model.specs.Plans.{Change, changed, free, first_of_free, slot, is_pipe, status, is_special, target_limit, mode, cut_to, opened, read_pipe, read_some, place_to_write, write_some, offset_named, sought, base, moved, replaced_by_name, absent, duplicated, piped, forked, most_moved, whole_write, most_processes}
 use Rattle.model.specs.Steps.{outcome}
 use Rattle.model.proofs.Laws.{all_entries}
 use Rattle.call_laws.proofs.Laws.{after_bind, allowed, either_given, weaken, whatever, not_none, some_same}
@@ -86,7 +86,7 @@ module _ (root : ℕ) (k : Kernel) (apart : IsApart root k) where
       by_number (Some n) is e = λ same. apart.unnamed d x (is ∙ ap Some (ap (λ (p : Place). p.0) (some_same (n, kind_of k n) place e) ∙ same))
 
   look_other : (place : Place) (x : Name) → IfOk (given k (look place x)) (IsOther root)
-  look_other place x = allowed k (IsOther root) (not (is_directory place)) ENOTDIR (ask (Look place.0 x)) (λ _. found_other place.0 x)
+  look_other place x = allowed k (IsOther root) (is_link place) ELOOP _ (λ _. allowed k (IsOther root) (not (is_directory place)) ENOTDIR (ask (Look place.0 x)) (λ _. found_other place.0 x))
 
   next_other : {A : Type 0} (P : A → Type 0) (p : Place → Plan A) → ((place : Place) → place.0 ≢ root → IfOk (given k (p place)) P) → (found : Option Place) → IsOther root found → IfOk (given k (or_refuse ENOENT found >>= p)) P
   unfolding IsOther
@@ -149,11 +149,14 @@ module _ (root : ℕ) (k : Kernel) (apart : IsApart root k) where
     status_fine n (Some A_file) other = record { tells = inl other; gives = tt }
     status_fine n (Some A_directory) other = record { tells = inl other; gives = tt }
     status_fine n (Some A_pipe) other = record { tells = inl other; gives = tt }
+    status_fine n (Some A_link) other = record { tells = inl other; gives = tt }
+    status_fine n (Some A_fifo) other = record { tells = inl other; gives = tt }
+    status_fine n (Some A_socket) other = record { tells = inl other; gives = tt }
 
     open_fine : (own : Own) (flags : OpenFlags) (fd : ℕ) (at : Last) (found : Option Place) → IsOther root found → IfOk (given k (opened own flags fd at found)) Fine
     unfolding IsOther
     open_fine own flags fd at None other = unless (not (is_creating flags)) ENOENT _ (record { tells = inl tt; gives = (tt, (tt, tt)) })
-    open_fine own flags fd at (Some place) other = unless (is_creating flags && is_exclusive flags) EEXIST _ (unless (is_directory place) EISDIR _ (by_test (is_truncating flags)))
+    open_fine own flags fd at (Some place) other = unless (is_creating flags && is_exclusive flags) EEXIST _ (unless (is_directory place) EISDIR _ (unless (is_link place) ELOOP _ (unless (is_special place) ENXIO _ (by_test (is_truncating flags)))))
       where
         by_test : (b : Bool) → IfOk (given k ((if b then cut_to place.0 0 else Give []) >>= (λ cut. changed (Descriptor fd) (cut ++ Open_inode 0 (There place.0) (mode flags) own.pid fd ∷ [])))) Fine
         by_test true = record { tells = inl tt; gives = (tt, (other place refl, tt)) }
@@ -208,10 +211,20 @@ module _ (root : ℕ) (k : Kernel) (apart : IsApart root k) where
     forked_fine own (Some (made, priority)) = unless (nat_le most_processes made) EAGAIN _ (record { tells = inl tt; gives = (tt, tt) })
     forked_fine own None = tt
 
-  stat_fine : (path : List ℕ) (names : Result (List Name) Errno) → path_names path ≡ names → IfOk (given k (told names >>= (λ names. walk (root, Some A_directory) names >>= status))) (IsGuarded root (Stat path))
+  -- the status of what is no link
+  abbrev followed : Place → Plan Change
+  followed place = refuse_if (is_link place) ELOOP >> status place
+
+  stat_fine : (path : List ℕ) (names : Result (List Name) Errno) → path_names path ≡ names → IfOk (given k (told names >>= (λ names. walk (root, Some A_directory) names >>= followed))) (IsGuarded root (Stat path))
   stat_fine path (Err e) is = tt
-  stat_fine path (Ok []) is = record { tells = inr (record { is_stat = ap Stat (root_path path is); tells = refl }); gives = tt }
-  stat_fine path (Ok (x ∷ xs)) is = then_given (Stat path) (λ place. place.0 ≢ root) (walk (root, Some A_directory) (x ∷ xs)) status (walk_some (root, Some A_directory) x xs) (λ place other. status_fine (Stat path) place.0 place.1 other)
+  stat_fine path (Ok []) is = record { tells = inr (record { is_stat = inl (ap Stat (root_path path is)); rights = rights_of k root; tells = refl }); gives = tt }
+  stat_fine path (Ok (x ∷ xs)) is = then_given (Stat path) (λ place. place.0 ≢ root) (walk (root, Some A_directory) (x ∷ xs)) followed (walk_some (root, Some A_directory) x xs) (λ place other.
+      unless (Stat path) (is_link place) ELOOP (status place) (status_fine (Stat path) place.0 place.1 other))
+
+  lstat_fine : (path : List ℕ) (names : Result (List Name) Errno) → path_names path ≡ names → IfOk (given k (told names >>= (λ names. walk (root, Some A_directory) names >>= status))) (IsGuarded root (Lstat path))
+  lstat_fine path (Err e) is = tt
+  lstat_fine path (Ok []) is = record { tells = inr (record { is_stat = inr (ap Lstat (root_path path is)); rights = rights_of k root; tells = refl }); gives = tt }
+  lstat_fine path (Ok (x ∷ xs)) is = then_given (Lstat path) (λ place. place.0 ≢ root) (walk (root, Some A_directory) (x ∷ xs)) status (walk_some (root, Some A_directory) x xs) (λ place other. status_fine (Lstat path) place.0 place.1 other)
 
   pub call_guarded : k.root ≡ root → SlotsAreThere k → (pid : ℕ) (call : Call) → IfOk (outcome k pid call) (IsGuarded root call)
   call_guarded is slots pid (Open path flags) =
@@ -237,8 +250,10 @@ module _ (root : ℕ) (k : Kernel) (apart : IsApart root k) where
   call_guarded is slots pid (Ftruncate fd len) = then_whatever (Ftruncate fd len) (slot (own k pid (Ftruncate fd len)) fd) _ (λ it.
       unless (Ftruncate fd len) (not it.writing) EBADF _ (unless (Ftruncate fd len) (is_pipe it.kind) EINVAL _ (unless (Ftruncate fd len) (nat_lt k.largest len) EFBIG _ (record { tells = inl tt; gives = (tt, tt) }))))
   call_guarded is slots pid (Truncate path len) = then_whatever (Truncate path len) (parsed path) _ (λ names. then_whatever (Truncate path len) (walk (k.root, Some A_directory) names) _ (λ place.
-      unless (Truncate path len) (is_directory place) EISDIR _ (unless (Truncate path len) (nat_lt k.largest len) EFBIG _ (record { tells = inl tt; gives = (tt, tt) }))))
-  call_guarded is slots pid (Stat path) = subst (λ n. IfOk (given k (parsed path >>= (λ names. walk (n, Some A_directory) names >>= status))) (IsGuarded root (Stat path))) (sym is) (stat_fine path (path_names path) refl)
+      unless (Truncate path len) (is_directory place) EISDIR _ (unless (Truncate path len) (is_link place) ELOOP _ (unless (Truncate path len) (is_special place) EINVAL _
+      (unless (Truncate path len) (nat_lt k.largest len) EFBIG _ (record { tells = inl tt; gives = (tt, tt) }))))))
+  call_guarded is slots pid (Stat path) =
+      subst (λ n. IfOk (given k (parsed path >>= (λ names. walk (n, Some A_directory) names >>= (λ place. refuse_if (is_link place) ELOOP >> status place)))) (IsGuarded root (Stat path))) (sym is) (stat_fine path (path_names path) refl)
   call_guarded is slots pid (Fstat fd) = then_given (Fstat fd) (λ it. it.inode ≢ root) (slot (own k pid (Fstat fd)) fd) _ (slot_other slots pid fd (Fstat fd)) (λ it other. status_fine (Fstat fd) it.inode it.kind other)
   call_guarded is slots pid (Link old path) = then_whatever (Link old path) (parsed old) _ (λ from. then_whatever (Link old path) (parsed path) _ (λ to.
       then_given (Link old path) (λ what. is_directory what ≡ false → what.0 ≢ root) (walk (k.root, Some A_directory) from) _
@@ -254,7 +269,19 @@ module _ (root : ℕ) (k : Kernel) (apart : IsApart root k) where
   call_guarded is slots pid (Rmdir path) = then_whatever (Rmdir path) (parsed path) _ (λ names. then_whatever (Rmdir path) (last_of k.root EBUSY names) _ (λ at. then_whatever (Rmdir path) (or_refuse ENOENT at.found) _ (λ what.
       unless (Rmdir path) (not (is_directory what)) ENOTDIR _ (unless (Rmdir path) (not (is_empty (answer k (List_names what.0)))) ENOTEMPTY _ (record { tells = inl tt; gives = (tt, tt) })))))
   call_guarded is slots pid (List_directory path) = then_whatever (List_directory path) (parsed path) _ (λ names. then_whatever (List_directory path) (walk (k.root, Some A_directory) names) _ (λ place.
-      unless (List_directory path) (not (is_directory place)) ENOTDIR _ (record { tells = inl tt; gives = tt })))
+      unless (List_directory path) (is_link place) ELOOP _ (unless (List_directory path) (not (is_directory place)) ENOTDIR _ (record { tells = inl tt; gives = tt }))))
+  call_guarded is slots pid (Symlink target path) =
+      unless (Symlink target path) (is_empty target) ENOENT _ (unless (Symlink target path) (nat_lt target_limit (length target)) ENAMETOOLONG _ (unless (Symlink target path) (list_any (λ b. b == 0) target) EINVAL _
+      (then_whatever (Symlink target path) (parsed path) _ (λ names. then_whatever (Symlink target path) (last_of k.root EEXIST names) _ (λ at. then_whatever (Symlink target path) (absent at.found) _ (λ _. record { tells = inl tt; gives = (tt, tt) }))))))
+  call_guarded is slots pid (Readlink path) = then_whatever (Readlink path) (parsed path) _ (λ names. then_whatever (Readlink path) (walk (k.root, Some A_directory) names) _ (λ place.
+      unless (Readlink path) (not (is_link place)) EINVAL _ (record { tells = inl tt; gives = tt })))
+  call_guarded is slots pid (Lstat path) = subst (λ n. IfOk (given k (parsed path >>= (λ names. walk (n, Some A_directory) names >>= status))) (IsGuarded root (Lstat path))) (sym is) (lstat_fine path (path_names path) refl)
+  call_guarded is slots pid (Mknod path special) = then_whatever (Mknod path special) (parsed path) _ (λ names. then_whatever (Mknod path special) (last_of k.root EEXIST names) _ (λ at. then_whatever (Mknod path special) (absent at.found) _ (λ _. record { tells = inl tt; gives = (tt, tt) })))
+  call_guarded is slots pid (Chmod path permissions) = then_whatever (Chmod path permissions) (parsed path) _ (λ names. then_whatever (Chmod path permissions) (walk (k.root, Some A_directory) names) _ (λ place.
+      unless (Chmod path permissions) (is_link place) ELOOP _ (record { tells = inl tt; gives = (tt, tt) })))
+  call_guarded is slots pid (Chown path owner) = then_whatever (Chown path owner) (parsed path) _ (λ names. then_whatever (Chown path owner) (walk (k.root, Some A_directory) names) _ (λ place. record { tells = inl tt; gives = (tt, tt) }))
+  call_guarded is slots pid (Fchmod fd permissions) = then_whatever (Fchmod fd permissions) (slot (own k pid (Fchmod fd permissions)) fd) _ (λ it. record { tells = inl tt; gives = (tt, tt) })
+  call_guarded is slots pid (Fchown fd owner) = then_whatever (Fchown fd owner) (slot (own k pid (Fchown fd owner)) fd) _ (λ it. record { tells = inl tt; gives = (tt, tt) })
   call_guarded is slots pid (Dup fd) = then_whatever (Dup fd) (slot (own k pid (Dup fd)) fd) _ (λ it. duplicated_fine (Dup fd) (own k pid (Dup fd)) it (free (own k pid (Dup fd))))
   call_guarded is slots pid (Dup2 fd other) = then_whatever (Dup2 fd other) (slot (own k pid (Dup2 fd other)) fd) _ (λ it.
       unless (Dup2 fd other) (nat_lt 63 other) EBADF _ (either (Dup2 fd other) (fd == other) _ _ (record { tells = inl tt; gives = tt }) (record { tells = inl tt; gives = (tt, tt) })))

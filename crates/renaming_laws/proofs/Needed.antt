@@ -14,6 +14,7 @@ astray : Kernel
 astray = record {
   root = 5;
   inodes = insert empty 0 (File (7 ∷ []));
+  rights = empty;
   descriptions = empty;
   processes = insert empty 1 (record { table = insert empty 3 9; priority = 0 });
   made = 1;

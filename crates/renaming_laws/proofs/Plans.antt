@@ -1,19 +1,31 @@
 -- The plan of each call, in a renamed state.
 use Rattle.std.proofs.Common.{◌≡◌, ℕ, ◌+◌, ℤ, pos, negsuc, ◌+ℤ◌, Bool, true, false, not, ◌&&◌, ◌||◌, nat_lt, nat_le, ◌==◌, if◌then◌else◌, List, [], ◌∷◌, ◌++◌, map, length, take, min, Option, Some, None, refl, sym, ap, ap₂, subst, ◌∙◌}
 use Rattle.std.proofs.lemmas.List.{map-append}
+use Rattle.std.specs.List.{list_any}
+use Rattle.ids.specs.Fixed.{special_object}
+use Rattle.ids.specs.Rights.{permitted, owned}
 use Rattle.ids.specs.Flags.{is_reading, is_writing, is_creating, is_exclusive, is_truncating}
-use Rattle.model.specs.State.{Kind, A_file, A_directory, A_pipe, Kernel, mapped}
-use Rattle.model.specs.Plan.{Errno, EAGAIN, EBADF, EBUSY, EEXIST, EFBIG, EINVAL, EISDIR, EMFILE, ENOENT, ENOTDIR, ENOTEMPTY, EPERM, EPIPE, ESPIPE, List_names, Measure, Read_file, Count_links, Count_ends, Find_offset, Read_pipe, Fit, Plan, Give, ◌>>=◌, ◌>>◌, ask, refuse_if, or_refuse}
+use Rattle.model.specs.State.{Kind, A_file, A_directory, A_pipe, A_link, A_fifo, A_socket, Link_to, Rights, Kernel, mapped}
+use Rattle.model.specs.Plan.{Errno, EAGAIN, EBADF, EBUSY, EEXIST, EFBIG, EINVAL, EISDIR, ELOOP, EMFILE, ENAMETOOLONG, ENXIO, ENOENT, ENOTDIR, ENOTEMPTY, EPERM, EPIPE, ESPIPE, List_names, Measure, Read_file, Count_links, Count_ends, Find_offset, Read_pipe, Fit, Read_target, Find_rights, Plan, Give, ◌>>=◌, ◌>>◌, ask, refuse_if, or_refuse}
 use Rattle.model.specs.Paths.{is_empty, is_below}
-use Rattle.model.specs.Walks.{parsed, walk, Last, last_of, Place, is_directory}
-use Rattle.model.specs.Changes.{Made, There, Edit, Make_directory, Make_file, Name_file, Unname_file, Unname_directory, Move, Put_bytes, Take, Append, Over_nothing, Over_file, Over_directory, Set_offset, Open_inode, Make_pipe, Share_slot, Clear_slot, New_process, End_process}
-use Rattle.model.specs.Calls.{OpenFlags, Whence, From_start, From_offset, From_end, Call, Open, Close, Read, Pread, Write, Pwrite, Lseek, Ftruncate, Truncate, Stat, Fstat, Link, Unlink, Rename, Mkdir, Rmdir, List_directory, Dup, Dup2, Open_pipe, Fork, Exit, Answer, Done, Descriptor, Count, New_place, Bytes, Pair, Stated, Listing, Child, Slot, Own}
-use Rattle.model.specs.Plans.{Change, changed, free, first_of_free, slot_at, slot, is_pipe, pipe_in, pipes_in, status, mode, cut_to, opened, read_pipe, read_some, place_to_write, room, write_some, offset_named, read_from, write_from, sought, base, replaced_by_name, move_onto, moved, absent, duplicated, piped, forked, plan, most_moved, most_processes, whole_write}
+use Rattle.model.specs.Walks.{parsed, walk, Last, last_of, Place, is_directory, is_link}
+use Rattle.model.specs.Changes.{Made, There, Edit, Make_directory, Make_file, Make_fixed, Name_file, Unname_file, Unname_directory, Move, Put_bytes, Take, Append, Over_nothing, Over_file, Over_directory, Set_offset, Set_rights, Open_inode, Make_pipe, Share_slot, Clear_slot, New_process, End_process}
+use Rattle.model.specs.Calls.{OpenFlags, Whence, From_start, From_offset, From_end, Call, Open, Close, Read, Pread, Write, Pwrite, Lseek, Ftruncate, Truncate, Stat, Fstat, Link, Unlink, Rename, Mkdir, Rmdir, List_directory, Symlink, Readlink, Lstat, Mknod, Chmod, Chown, Fchmod, Fchown, Dup, Dup2, Open_pipe, Fork, Exit, Answer, Done, Descriptor, Count, New_place, Bytes, Pair, Stated, Listing, Child, Slot, Own}
+use Rattle.model.specs.Plans.{Change, changed, free, first_of_free, slot_at, slot, is_pipe, pipe_in, pipes_in, stated, status, revised, is_special, target_limit, mode, cut_to, opened, read_pipe, read_some, place_to_write, room, write_some, offset_named, read_from, write_from, sought, base, replaced_by_name, move_onto, moved, absent, duplicated, piped, forked, plan, most_moved, most_processes, whole_write}
 use Rattle.renaming_laws.specs.Renaming.{IsRenaming}
 use Rattle.renaming_laws.specs.Renamed.{renamed_place, renamed_slot, renamed_own, renamed_replaced, renamed_edit, renamed_answer, renamed_change}
 use Rattle.renaming_laws.proofs.States.{same_test}
 use Rattle.renaming_laws.proofs.Own.{free_still, slot_found, pipe_renamed, pipes_renamed}
-use Rattle.renaming_laws.proofs.Rules.{Goes, goes_on, goes_give, goes_refuse, goes_ask, goes_unless, goes_either, goes_or, goes_parsed, directory_still, renamed_last, walk_goes, last_of_goes}
+use Rattle.renaming_laws.proofs.Rules.{Goes, goes_on, goes_give, goes_refuse, goes_ask, goes_unless, goes_either, goes_or, goes_parsed, directory_still, link_still, renamed_last, walk_goes, last_of_goes}
+
+special_still : (f : ℕ → ℕ) (place : Place) → is_special (renamed_place f place) ≡ is_special place
+special_still f (n, None) = refl
+special_still f (n, Some A_file) = refl
+special_still f (n, Some A_directory) = refl
+special_still f (n, Some A_pipe) = refl
+special_still f (n, Some A_link) = refl
+special_still f (n, Some A_fifo) = refl
+special_still f (n, Some A_socket) = refl
 
 module _ (f : ℕ → ℕ) (r : IsRenaming f) (k : Kernel) where
   -- how a call ends
@@ -33,14 +45,34 @@ module _ (f : ℕ → ℕ) (r : IsRenaming f) (k : Kernel) where
   asked : {A B C : Type 0} (h : B → C) (m n : Plan A) (p : A → Plan B) (q : A → Plan C) → Goes f k (λ x. x) m n → ((x : A) → Goes f k h (p x) (q x)) → Goes f k h (m >>= p) (n >>= q)
   asked h m n p q way rest = goes_on f r k (λ x. x) h m n p q way rest
 
+  stated_goes : (what : Kind) (n size links : ℕ) → Goes f k (renamed_change f) (stated what n size links) (stated what (f n) size links)
+  stated_goes what n size links =
+      asked (renamed_change f) (ask (Find_rights n)) (ask (Find_rights (f n))) _ _ (goes_ask f r k (Find_rights n)) (λ rights.
+      goes_changed (Stated (record { kind = what; num = n; size = size; links = links; rights = rights })) [] [] refl)
+
+  -- what is told with how many names it has
+  linked_goes : (what : Kind) (n size : ℕ) → Goes f k (renamed_change f) (ask (Count_links n) >>= (λ links. stated what n size links)) (ask (Count_links (f n)) >>= (λ links. stated what (f n) size links))
+  linked_goes what n size = asked (renamed_change f) (ask (Count_links n)) (ask (Count_links (f n))) _ _ (goes_ask f r k (Count_links n)) (λ links. stated_goes what n size links)
+
   status_goes : (n : ℕ) (what : Option Kind) → Goes f k (renamed_change f) (status (n, what)) (status (f n, what))
   status_goes n None = goes_refuse f r k (renamed_change f) ENOENT
-  status_goes n (Some A_file) =
-      asked (renamed_change f) (ask (Measure n)) (ask (Measure (f n))) _ _ (goes_ask f r k (Measure n)) (λ size.
-      asked (renamed_change f) (ask (Count_links n)) (ask (Count_links (f n))) _ _ (goes_ask f r k (Count_links n)) (λ links.
-      goes_changed (Stated (record { kind = A_file; num = n; size = size; links = links })) [] [] refl))
-  status_goes n (Some A_directory) = goes_changed (Stated (record { kind = A_directory; num = n; size = 0; links = 1 })) [] [] refl
-  status_goes n (Some A_pipe) = goes_changed (Stated (record { kind = A_pipe; num = n; size = 0; links = 0 })) [] [] refl
+  status_goes n (Some A_file) = asked (renamed_change f) (ask (Measure n)) (ask (Measure (f n))) _ _ (goes_ask f r k (Measure n)) (λ size. linked_goes A_file n size)
+  status_goes n (Some A_directory) = stated_goes A_directory n 0 1
+  status_goes n (Some A_pipe) = stated_goes A_pipe n 0 0
+  status_goes n (Some A_link) = asked (renamed_change f) (ask (Read_target n)) (ask (Read_target (f n))) _ _ (goes_ask f r k (Read_target n)) (λ target. linked_goes A_link n (length target))
+  status_goes n (Some A_fifo) = linked_goes A_fifo n 0
+  status_goes n (Some A_socket) = linked_goes A_socket n 0
+
+  -- rights that are made others
+  revised_goes : (n : ℕ) (change : Rights → Rights) → Goes f k (renamed_change f) (revised n change) (revised (f n) change)
+  revised_goes n change = asked (renamed_change f) (ask (Find_rights n)) (ask (Find_rights (f n))) _ _ (goes_ask f r k (Find_rights n)) (λ rights. goes_changed Done (Set_rights n (change rights) ∷ []) _ refl)
+
+  -- what is no link, and no FIFO and no socket
+  unless_link : (place : Place) (m n : Plan Change) → Goes f k (renamed_change f) m n → Goes f k (renamed_change f) (refuse_if (is_link place) ELOOP >> m) (refuse_if (is_link (renamed_place f place)) ELOOP >> n)
+  unless_link place m n way = goes_unless f r k (renamed_change f) (is_link place) (is_link (renamed_place f place)) (link_still f place) ELOOP m n way
+
+  unless_special : (place : Place) (e : Errno) (m n : Plan Change) → Goes f k (renamed_change f) m n → Goes f k (renamed_change f) (refuse_if (is_special place) e >> m) (refuse_if (is_special (renamed_place f place)) e >> n)
+  unless_special place e m n way = goes_unless f r k (renamed_change f) (is_special place) (is_special (renamed_place f place)) (special_still f place) e m n way
 
   cut_goes : (n len : ℕ) → Goes f k (map (renamed_edit f)) (cut_to n len) (cut_to (f n) len)
   cut_goes n len = asked (map (renamed_edit f)) (ask (Measure n)) (ask (Measure (f n))) _ _ (goes_ask f r k (Measure n)) (λ size. goes_give f r k (map (renamed_edit f)) _ _ refl)
@@ -51,9 +83,10 @@ module _ (f : ℕ → ℕ) (r : IsRenaming f) (k : Kernel) where
   opened_goes own flags fd at (Some place) =
       unless (is_creating flags && is_exclusive flags) EEXIST _ _
       (goes_unless f r k (renamed_change f) (is_directory place) (is_directory (renamed_place f place)) (directory_still f place) EISDIR _ _
+      (unless_link place _ _ (unless_special place ENXIO _ _
       (goes_on f r k (map (renamed_edit f)) (renamed_change f) (if is_truncating flags then cut_to place.0 0 else Give []) (if is_truncating flags then cut_to (f place.0) 0 else Give []) _ _
       (goes_either f r k (map (renamed_edit f)) (is_truncating flags) (is_truncating flags) refl _ _ _ _ (cut_goes place.0 0) (goes_give f r k (map (renamed_edit f)) [] [] refl)) (λ cut.
-      goes_changed (Descriptor fd) (cut ++ Open_inode 0 (There place.0) (mode flags) own.pid fd ∷ []) (map (renamed_edit f) cut ++ Open_inode 0 (There (f place.0)) (mode flags) own.pid fd ∷ []) (sym (map-append (renamed_edit f) cut (Open_inode 0 (There place.0) (mode flags) own.pid fd ∷ []))))))
+      goes_changed (Descriptor fd) (cut ++ Open_inode 0 (There place.0) (mode flags) own.pid fd ∷ []) (map (renamed_edit f) cut ++ Open_inode 0 (There (f place.0)) (mode flags) own.pid fd ∷ []) (sym (map-append (renamed_edit f) cut (Open_inode 0 (There place.0) (mode flags) own.pid fd ∷ []))))))))
 
   read_pipe_goes : (p : ℕ) (bytes : List ℕ) → Goes f k (renamed_change f) (read_pipe p bytes) (read_pipe (f p) bytes)
   read_pipe_goes p [] = asked (renamed_change f) (ask (Count_ends p)) (ask (Count_ends (f p))) _ _ (goes_ask f r k (Count_ends p)) (λ ends. unless (nat_lt 0 ends.1) EAGAIN _ _ (goes_changed (Bytes []) [] [] refl))
@@ -195,9 +228,9 @@ module _ (f : ℕ → ℕ) (r : IsRenaming f) (k : Kernel) where
       unless (not it.writing) EBADF _ _ (unless (is_pipe it.kind) EINVAL _ _ (unless (nat_lt own.largest len) EFBIG _ _
       (goes_on f r k (map (renamed_edit f)) (renamed_change f) (cut_to it.inode len) (cut_to (f it.inode) len) (λ cut. changed Done cut) (λ cut. changed Done cut) (cut_goes it.inode len) (λ cut. goes_changed Done cut (map (renamed_edit f) cut) refl)))))
   plan_goes own (Truncate path len) = by_path path _ _ (λ names. walked own.root names _ _ (λ place.
-      of_kind (λ b. b) place EISDIR _ _ (unless (nat_lt own.largest len) EFBIG _ _
-      (goes_on f r k (map (renamed_edit f)) (renamed_change f) (cut_to place.0 len) (cut_to (f place.0) len) (λ cut. changed Done cut) (λ cut. changed Done cut) (cut_goes place.0 len) (λ cut. goes_changed Done cut (map (renamed_edit f) cut) refl)))))
-  plan_goes own (Stat path) = by_path path _ _ (λ names. walked own.root names _ _ (λ place. status_goes place.0 place.1))
+      of_kind (λ b. b) place EISDIR _ _ (unless_link place _ _ (unless_special place EINVAL _ _ (unless (nat_lt own.largest len) EFBIG _ _
+      (goes_on f r k (map (renamed_edit f)) (renamed_change f) (cut_to place.0 len) (cut_to (f place.0) len) (λ cut. changed Done cut) (λ cut. changed Done cut) (cut_goes place.0 len) (λ cut. goes_changed Done cut (map (renamed_edit f) cut) refl)))))))
+  plan_goes own (Stat path) = by_path path _ _ (λ names. walked own.root names _ _ (λ place. unless_link place _ _ (status_goes place.0 place.1)))
   plan_goes own (Fstat fd) = with_slot own fd _ _ (λ it. status_goes it.inode it.kind)
   plan_goes own (Link old path) = by_path old _ _ (λ from. by_path path _ _ (λ to. walked own.root from _ _ (λ what.
       of_kind (λ b. b) what EPERM _ _ (at_last own.root EEXIST to _ _ (λ at. if_absent at.found _ _ (goes_changed Done (Name_file at.parent at.name what.0 ∷ []) _ refl))))))
@@ -211,7 +244,19 @@ module _ (f : ℕ → ℕ) (r : IsRenaming f) (k : Kernel) where
       of_kind not what ENOTDIR _ _ (asked (renamed_change f) (ask (List_names what.0)) (ask (List_names (f what.0))) _ _ (goes_ask f r k (List_names what.0)) (λ entries.
       unless (not (is_empty entries)) ENOTEMPTY _ _ (goes_changed Done (Unname_directory at.parent at.name what.0 ∷ []) _ refl))))))
   plan_goes own (List_directory path) = by_path path _ _ (λ names. walked own.root names _ _ (λ place.
-      of_kind not place ENOTDIR _ _ (asked (renamed_change f) (ask (List_names place.0)) (ask (List_names (f place.0))) _ _ (goes_ask f r k (List_names place.0)) (λ entries. goes_changed (Listing entries) [] [] refl))))
+      unless_link place _ _ (of_kind not place ENOTDIR _ _ (asked (renamed_change f) (ask (List_names place.0)) (ask (List_names (f place.0))) _ _ (goes_ask f r k (List_names place.0)) (λ entries. goes_changed (Listing entries) [] [] refl)))))
+  plan_goes own (Symlink target path) =
+      unless (is_empty target) ENOENT _ _ (unless (nat_lt target_limit (length target)) ENAMETOOLONG _ _ (unless (list_any (λ b. b == 0) target) EINVAL _ _
+      (by_path path _ _ (λ names. at_last own.root EEXIST names _ _ (λ at. if_absent at.found _ _ (goes_changed Done (Make_fixed at.parent at.name (Link_to target) 0 ∷ []) _ refl))))))
+  plan_goes own (Readlink path) = by_path path _ _ (λ names. walked own.root names _ _ (λ place.
+      goes_unless f r k (renamed_change f) (not (is_link place)) (not (is_link (renamed_place f place))) (ap not (link_still f place)) EINVAL _ _
+      (asked (renamed_change f) (ask (Read_target place.0)) (ask (Read_target (f place.0))) _ _ (goes_ask f r k (Read_target place.0)) (λ target. goes_changed (Bytes target) [] [] refl))))
+  plan_goes own (Lstat path) = by_path path _ _ (λ names. walked own.root names _ _ (λ place. status_goes place.0 place.1))
+  plan_goes own (Mknod path special) = by_path path _ _ (λ names. at_last own.root EEXIST names _ _ (λ at. if_absent at.found _ _ (goes_changed Done (Make_fixed at.parent at.name (special_object special) 0 ∷ []) _ refl)))
+  plan_goes own (Chmod path permissions) = by_path path _ _ (λ names. walked own.root names _ _ (λ place. unless_link place _ _ (revised_goes place.0 (permitted permissions))))
+  plan_goes own (Chown path owner) = by_path path _ _ (λ names. walked own.root names _ _ (λ place. revised_goes place.0 (owned place.1 owner)))
+  plan_goes own (Fchmod fd permissions) = with_slot own fd _ _ (λ it. revised_goes it.inode (permitted permissions))
+  plan_goes own (Fchown fd owner) = with_slot own fd _ _ (λ it. revised_goes it.inode (owned it.kind owner))
   plan_goes own (Dup fd) = with_slot own fd _ _ (λ it. subst (λ fds. Goes f k (renamed_change f) (duplicated own it (free own)) (duplicated (renamed_own f own) (renamed_slot f it) fds)) (sym (free_still f r own)) (duplicated_goes own it (free own)))
   plan_goes own (Dup2 fd other) = with_slot own fd _ _ (λ it.
       unless (nat_lt 63 other) EBADF _ _ (goes_either f r k (renamed_change f) (fd == other) (fd == other) refl _ _ _ _ (goes_changed (Descriptor fd) [] [] refl)

@@ -3,7 +3,7 @@ use Rattle.std.proofs.Common.{◌≡◌, ℕ, suc, List, [], ◌∷◌, map, ref
 use Rattle.std.specs.Cmp.{nat_cmp_total}
 use Rattle.std.specs.Cmp.Lexicographic.{nat_list_cmp_total}
 use Rattle.model.specs.FiniteMap.{FinMap, empty, insert, nat_cmp-IsAntisymmetric}
-use Rattle.model.specs.State.{Directory, Process}
+use Rattle.model.specs.State.{Directory, Process, Rights}
 use Rattle.model.specs.Steps.{Run}
 use Rattle.model.specs.Moments.{Setup, with_processes, start}
 use Rattle.model.proofs.Laws.{name_exact}
@@ -33,6 +33,7 @@ module _ (f : ℕ → ℕ) (r : IsRenaming f) where
   start_renamed root setup = λ i. record {
     root = f root;
     inodes = root_put root setup i;
+    rights = renamed-empty nat_cmp_total nat_cmp-IsAntisymmetric f r.again (λ (set : Rights). set) i;
     descriptions = renamed-empty nat_cmp_total nat_cmp-IsAntisymmetric f r.again (renamed_description f) i;
     processes = processes_stay 0 setup.priorities empty (renamed-empty nat_cmp_total nat_cmp-IsAntisymmetric (λ x. x) (λ x. refl) (renamed_process f)) i;
     made = (start root setup).made;

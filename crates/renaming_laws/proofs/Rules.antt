@@ -1,8 +1,8 @@
 -- Two plans that go the same way in a state and in the renamed one.
 use Rattle.std.proofs.Common.{◌≡◌, ℕ, Bool, true, false, not, if◌then◌else◌, List, [], ◌∷◌, Option, Some, None, Result, Ok, Err, refl, sym, ap, subst, ◌∙◌}
-use Rattle.model.specs.State.{Name, A_file, A_directory, A_pipe, Kernel, mapped}
-use Rattle.model.specs.Plan.{Errno, ENOENT, ENOTDIR, Question, Look, Plan, Give, Refuse, Ask, answer, given, ◌>>=◌, ◌>>◌, or_refuse, refuse_if, ask}
-use Rattle.model.specs.Walks.{told, parsed, Place, is_directory, look, walk, Last, last, last_of}
+use Rattle.model.specs.State.{Name, A_file, A_directory, A_pipe, A_link, A_fifo, A_socket, Kernel, mapped}
+use Rattle.model.specs.Plan.{Errno, ELOOP, ENOENT, ENOTDIR, Question, Look, Plan, Give, Refuse, Ask, answer, given, ◌>>=◌, ◌>>◌, or_refuse, refuse_if, ask}
+use Rattle.model.specs.Walks.{told, parsed, Place, is_directory, is_link, look, walk, Last, last, last_of}
 use Rattle.model.specs.Paths.{path_names}
 use Rattle.renaming_laws.specs.Renaming.{IsRenaming, renamed}
 use Rattle.renaming_laws.specs.Renamed.{renamed_question, renamed_shown, renamed_place, mapped_ok}
@@ -74,13 +74,27 @@ directory_still f (n, None) = refl
 directory_still f (n, Some A_file) = refl
 directory_still f (n, Some A_directory) = refl
 directory_still f (n, Some A_pipe) = refl
+directory_still f (n, Some A_link) = refl
+directory_still f (n, Some A_fifo) = refl
+directory_still f (n, Some A_socket) = refl
+
+pub link_still : (f : ℕ → ℕ) (place : Place) → is_link (renamed_place f place) ≡ is_link place
+link_still f (n, None) = refl
+link_still f (n, Some A_file) = refl
+link_still f (n, Some A_directory) = refl
+link_still f (n, Some A_pipe) = refl
+link_still f (n, Some A_link) = refl
+link_still f (n, Some A_fifo) = refl
+link_still f (n, Some A_socket) = refl
 
 abbrev pub renamed_last : (ℕ → ℕ) → Last → Last
 renamed_last f at = record at { parent = f at.parent; found = mapped (renamed_place f) at.found }
 
 module _ (f : ℕ → ℕ) (r : IsRenaming f) (k : Kernel) where
   look_goes : (place : Place) (x : Name) → Goes f k (mapped (renamed_place f)) (look place x) (look (renamed_place f place) x)
-  look_goes place x = goes_unless f r k (mapped (renamed_place f)) (not (is_directory place)) (not (is_directory (renamed_place f place))) (ap not (directory_still f place)) ENOTDIR _ _ (goes_ask f r k (Look place.0 x))
+  look_goes place x =
+      goes_unless f r k (mapped (renamed_place f)) (is_link place) (is_link (renamed_place f place)) (link_still f place) ELOOP _ _
+      (goes_unless f r k (mapped (renamed_place f)) (not (is_directory place)) (not (is_directory (renamed_place f place))) (ap not (directory_still f place)) ENOTDIR _ _ (goes_ask f r k (Look place.0 x)))
 
   next_goes : {A B : Type 0} (h : A → B) (place : Place) (x : Name) (p : Place → Plan A) (q : Place → Plan B) → ((next : Place) → Goes f k h (p next) (q (renamed_place f next)))
       → Goes f k h (look place x >>= (λ found. or_refuse ENOENT found >>= p)) (look (renamed_place f place) x >>= (λ found. or_refuse ENOENT found >>= q))

@@ -6,14 +6,14 @@ use Rattle.std.proofs.lemmas.List.{length-map}
 use Rattle.std.proofs.lemmas.List.Sums.{sum_by-cons}
 use Rattle.model.specs.FiniteMap.{get, nat_cmp-IsAntisymmetric}
 use Rattle.model.specs.State.{Kernel, Process, mapped, names_of}
-use Rattle.model.specs.Changes.{Edit, Make_directory, Make_file, Name_file, Unname_file, Unname_directory, Move, Put_bytes, Cut, Take, Append, Set_offset, Open_inode, Make_pipe, Share_slot, Clear_slot, New_process, End_process, news, all_applied, tidy, process_of}
+use Rattle.model.specs.Changes.{Edit, Make_directory, Make_file, Make_fixed, Name_file, Unname_file, Unname_directory, Move, Put_bytes, Cut, Take, Append, Set_offset, Set_rights, Open_inode, Make_pipe, Share_slot, Clear_slot, New_process, End_process, news, all_applied, tidy, process_of}
 use Rattle.model.specs.Steps.{outcome, edits, IsNowhere, AllDifferent, CanBeChosen, Step, Item, Run}
 use Rattle.call_laws.proofs.Laws.{not_none, some_same}
 use Rattle.renaming_laws.specs.Renaming.{IsRenaming, renamed_inode, renamed_description, renamed}
 use Rattle.renaming_laws.specs.Renamed.{renamed_edit, renamed_answer, mapped_ok, renamed_item}
 use Rattle.renaming_laws.specs.Laws.{SlotsAreThere, HasNumbers, RunsAreRenamed}
 use Rattle.renaming_laws.proofs.Maps.{get_at}
-use Rattle.renaming_laws.proofs.States.{inode_at, description_at, given_at, process_at}
+use Rattle.renaming_laws.proofs.States.{inode_at, set_at, description_at, given_at, process_at}
 use Rattle.renaming_laws.proofs.Edits.{edits_renamed, tidy_renamed}
 use Rattle.renaming_laws.proofs.Calls.{calls_are_renamed}
 use Rattle.renaming_laws.proofs.Sound.{call_sound, edits_sound}
@@ -33,6 +33,7 @@ module _ (f : ℕ → ℕ) (r : IsRenaming f) where
   nowhere_renamed : (k : Kernel) (n : ℕ) → IsNowhere k n → IsNowhere (renamed f k) (f n)
   nowhere_renamed k n h = record {
     inode = inode_at f r k n ∙ ap (mapped (renamed_inode f)) h.inode;
+    rights = set_at f r k n ∙ h.rights;
     description = description_at f r k n ∙ ap (mapped (renamed_description f)) h.description;
     unnamed = λ d x e. h.unnamed (f d) x (given_back (get (names_of k (f d)) x) n (sym (given_at f r k (f d) x) ∙ ap (λ d. get (names_of (renamed f k) d) x) (r.again d) ∙ e));
     unheld = λ pid fd e. h.unheld pid fd (given_back (get (process_of k pid).table fd) n (sym (table_at k pid fd) ∙ e));
@@ -53,6 +54,7 @@ module _ (f : ℕ → ℕ) (r : IsRenaming f) where
   news_still : (e : Edit) → news (renamed_edit f e) ≡ news e
   news_still (Make_directory d x i) = refl
   news_still (Make_file d x i) = refl
+  news_still (Make_fixed d x fixed i) = refl
   news_still (Name_file d x n) = refl
   news_still (Unname_file d x n) = refl
   news_still (Unname_directory d x n) = refl
@@ -62,6 +64,7 @@ module _ (f : ℕ → ℕ) (r : IsRenaming f) where
   news_still (Take p count) = refl
   news_still (Append p bytes) = refl
   news_still (Set_offset d place) = refl
+  news_still (Set_rights n set) = refl
   news_still (Open_inode i inode mode pid fd) = refl
   news_still (Make_pipe i pid reader writer) = refl
   news_still (Share_slot pid fd d pipes) = refl

@@ -1,18 +1,18 @@
 -- The edits of a call speak of new numbers that are chosen, and share descriptions that are there.
 use Rattle.std.proofs.Common.{◌≢◌, ℕ, ◌+◌, Bool, true, false, cond, not, ◌&&◌, ◌||◌, nat_lt, nat_le, ◌==◌, if◌then◌else◌, ℤ, pos, negsuc, ◌+ℤ◌, List, [], ◌∷◌, ◌++◌, map, length, min, Option, Some, None, Result, Ok, Err, IfOk, sum_by, arith}
 use Rattle.std.specs.Prelude.{⊤}
-use Rattle.std.specs.List.{AllByRecursion}
+use Rattle.std.specs.List.{AllByRecursion, list_any}
 use Rattle.std.specs.Map.{lookup}
 use Rattle.std.specs.Cmp.{nat_cmp_total}
 use Rattle.ids.specs.Flags.{is_reading, is_writing, is_creating, is_exclusive, is_truncating}
 use Rattle.model.specs.FiniteMap.{get, entries}
-use Rattle.model.specs.State.{A_file, A_directory, A_pipe, Kernel, Description}
-use Rattle.model.specs.Plan.{Errno, EAGAIN, EBADF, EBUSY, EEXIST, EFBIG, EINVAL, EISDIR, ENOENT, ENOTDIR, ENOTEMPTY, EPERM, EPIPE, ESPIPE, List_names, Read_pipe, Count_ends, Find_offset, Read_file, Fit, Plan, Give, given, ◌>>=◌, ◌>>◌, refuse_if, or_refuse, answer}
+use Rattle.model.specs.State.{A_file, A_directory, A_pipe, A_link, A_fifo, A_socket, Kernel, Description}
+use Rattle.model.specs.Plan.{Errno, EAGAIN, EBADF, EBUSY, EEXIST, EFBIG, EINVAL, EISDIR, ELOOP, ENXIO, ENAMETOOLONG, ENOENT, ENOTDIR, ENOTEMPTY, EPERM, EPIPE, ESPIPE, List_names, Read_pipe, Count_ends, Find_offset, Read_file, Fit, Read_target, Plan, Give, given, ◌>>=◌, ◌>>◌, refuse_if, or_refuse, answer}
 use Rattle.model.specs.Paths.{is_empty, is_below}
-use Rattle.model.specs.Walks.{parsed, walk, Last, last_of, Place, is_directory}
+use Rattle.model.specs.Walks.{parsed, walk, Last, last_of, Place, is_directory, is_link}
 use Rattle.model.specs.Changes.{There, Edit, Open_inode, Set_offset, Share_slot, news, process_of}
-use Rattle.model.specs.Calls.{OpenFlags, Call, Open, Close, Read, Pread, Write, Pwrite, Lseek, Ftruncate, Truncate, Stat, Fstat, Link, Unlink, Rename, Mkdir, Rmdir, List_directory, Dup, Dup2, Open_pipe, Fork, Exit, Answer, Done, Descriptor, Count, Bytes, Listing, Slot, Own, slot_of, own}
-use Rattle.model.specs.Plans.{Change, changed, free, first_of_free, slot, is_pipe, status, mode, cut_to, opened, read_pipe, read_some, place_to_write, write_some, offset_named, sought, base, moved, replaced_by_name, absent, duplicated, piped, forked, most_moved, whole_write, most_processes}
+use Rattle.model.specs.Calls.{OpenFlags, Call, Open, Close, Read, Pread, Write, Pwrite, Lseek, Ftruncate, Truncate, Stat, Fstat, Link, Unlink, Rename, Mkdir, Rmdir, List_directory, Symlink, Readlink, Lstat, Mknod, Chmod, Chown, Fchmod, Fchown, Dup, Dup2, Open_pipe, Fork, Exit, Answer, Done, Descriptor, Count, Bytes, Listing, Slot, Own, slot_of, own}
+use Rattle.model.specs.Plans.{Change, changed, free, first_of_free, slot, is_pipe, status, is_special, target_limit, mode, cut_to, opened, read_pipe, read_some, place_to_write, write_some, offset_named, sought, base, moved, replaced_by_name, absent, duplicated, piped, forked, most_moved, whole_write, most_processes}
 use Rattle.model.specs.Steps.{outcome, edits_of}
 use Rattle.model.proofs.Laws.{all_entries}
 use Rattle.call_laws.proofs.Laws.{after_bind, allowed, either_given, weaken, whatever}
@@ -72,10 +72,13 @@ module _ (k : Kernel) where
   status_sound (n, Some A_file) = unchanged_sound _
   status_sound (n, Some A_directory) = unchanged_sound _
   status_sound (n, Some A_pipe) = unchanged_sound _
+  status_sound (n, Some A_link) = unchanged_sound _
+  status_sound (n, Some A_fifo) = unchanged_sound _
+  status_sound (n, Some A_socket) = unchanged_sound _
 
   open_sound : (own : Own) (flags : OpenFlags) (fd : ℕ) (at : Last) (found : Option Place) → IfOk (given k (opened own flags fd at found)) (IsSound k)
   open_sound own flags fd at None = unless (not (is_creating flags)) ENOENT _ (record { numbers = (omega arith, ((omega arith, omega arith), tt)); shares = (tt, (tt, tt)) })
-  open_sound own flags fd at (Some place) = unless (is_creating flags && is_exclusive flags) EEXIST _ (unless (is_directory place) EISDIR _ (by_test (is_truncating flags)))
+  open_sound own flags fd at (Some place) = unless (is_creating flags && is_exclusive flags) EEXIST _ (unless (is_directory place) EISDIR _ (unless (is_link place) ELOOP _ (unless (is_special place) ENXIO _ (by_test (is_truncating flags)))))
     where
       by_test : (b : Bool) → IfOk (given k ((if b then cut_to place.0 0 else Give []) >>= (λ cut. changed (Descriptor fd) (cut ++ Open_inode 0 (There place.0) (mode flags) own.pid fd ∷ [])))) (IsSound k)
       by_test true = record { numbers = (tt, ((omega arith, tt), tt)); shares = (tt, (tt, tt)) }
@@ -141,8 +144,8 @@ module _ (k : Kernel) where
   call_sound slots pid (Ftruncate fd len) = with_slot slots pid fd (Ftruncate fd len) _ (λ it there.
       unless (not it.writing) EBADF _ (unless (is_pipe it.kind) EINVAL _ (unless (nat_lt k.largest len) EFBIG _ (record { numbers = (tt, tt); shares = (tt, tt) }))))
   call_sound slots pid (Truncate path len) = then_whatever (parsed path) _ (λ names. then_whatever (walk (k.root, Some A_directory) names) _ (λ place.
-      unless (is_directory place) EISDIR _ (unless (nat_lt k.largest len) EFBIG _ (record { numbers = (tt, tt); shares = (tt, tt) }))))
-  call_sound slots pid (Stat path) = then_whatever (parsed path) _ (λ names. then_whatever (walk (k.root, Some A_directory) names) _ (λ place. status_sound place))
+      unless (is_directory place) EISDIR _ (unless (is_link place) ELOOP _ (unless (is_special place) EINVAL _ (unless (nat_lt k.largest len) EFBIG _ (record { numbers = (tt, tt); shares = (tt, tt) }))))))
+  call_sound slots pid (Stat path) = then_whatever (parsed path) _ (λ names. then_whatever (walk (k.root, Some A_directory) names) _ (λ place. unless (is_link place) ELOOP _ (status_sound place)))
   call_sound slots pid (Fstat fd) = with_slot slots pid fd (Fstat fd) _ (λ it there. status_sound (it.inode, it.kind))
   call_sound slots pid (Link old path) = then_whatever (parsed old) _ (λ from. then_whatever (parsed path) _ (λ to. then_whatever (walk (k.root, Some A_directory) from) _ (λ what.
       unless (is_directory what) EPERM _ (then_whatever (last_of k.root EEXIST to) _ (λ at. then_whatever (absent at.found) _ (λ _. record { numbers = (tt, tt); shares = (tt, tt) }))))))
@@ -155,7 +158,18 @@ module _ (k : Kernel) where
   call_sound slots pid (Rmdir path) = then_whatever (parsed path) _ (λ names. then_whatever (last_of k.root EBUSY names) _ (λ at. then_whatever (or_refuse ENOENT at.found) _ (λ what.
       unless (not (is_directory what)) ENOTDIR _ (unless (not (is_empty (answer k (List_names what.0)))) ENOTEMPTY _ (record { numbers = (tt, tt); shares = (tt, tt) })))))
   call_sound slots pid (List_directory path) = then_whatever (parsed path) _ (λ names. then_whatever (walk (k.root, Some A_directory) names) _ (λ place.
-      unless (not (is_directory place)) ENOTDIR _ (unchanged_sound (Listing (answer k (List_names place.0))))))
+      unless (is_link place) ELOOP _ (unless (not (is_directory place)) ENOTDIR _ (unchanged_sound (Listing (answer k (List_names place.0)))))))
+  call_sound slots pid (Symlink target path) =
+      unless (is_empty target) ENOENT _ (unless (nat_lt target_limit (length target)) ENAMETOOLONG _ (unless (list_any (λ b. b == 0) target) EINVAL _
+      (then_whatever (parsed path) _ (λ names. then_whatever (last_of k.root EEXIST names) _ (λ at. then_whatever (absent at.found) _ (λ _. record { numbers = (omega arith, tt); shares = (tt, tt) }))))))
+  call_sound slots pid (Readlink path) = then_whatever (parsed path) _ (λ names. then_whatever (walk (k.root, Some A_directory) names) _ (λ place.
+      unless (not (is_link place)) EINVAL _ (unchanged_sound (Bytes (answer k (Read_target place.0))))))
+  call_sound slots pid (Lstat path) = then_whatever (parsed path) _ (λ names. then_whatever (walk (k.root, Some A_directory) names) _ (λ place. status_sound place))
+  call_sound slots pid (Mknod path special) = then_whatever (parsed path) _ (λ names. then_whatever (last_of k.root EEXIST names) _ (λ at. then_whatever (absent at.found) _ (λ _. record { numbers = (omega arith, tt); shares = (tt, tt) })))
+  call_sound slots pid (Chmod path permissions) = then_whatever (parsed path) _ (λ names. then_whatever (walk (k.root, Some A_directory) names) _ (λ place. unless (is_link place) ELOOP _ (record { numbers = (tt, tt); shares = (tt, tt) })))
+  call_sound slots pid (Chown path owner) = then_whatever (parsed path) _ (λ names. then_whatever (walk (k.root, Some A_directory) names) _ (λ place. record { numbers = (tt, tt); shares = (tt, tt) }))
+  call_sound slots pid (Fchmod fd permissions) = then_whatever (slot (own k pid (Fchmod fd permissions)) fd) _ (λ it. record { numbers = (tt, tt); shares = (tt, tt) })
+  call_sound slots pid (Fchown fd owner) = then_whatever (slot (own k pid (Fchown fd owner)) fd) _ (λ it. record { numbers = (tt, tt); shares = (tt, tt) })
   call_sound slots pid (Dup fd) = with_slot slots pid fd (Dup fd) _ (λ it there. duplicated_sound (own k pid (Dup fd)) it there (free (own k pid (Dup fd))))
   call_sound slots pid (Dup2 fd other) = with_slot slots pid fd (Dup2 fd other) _ (λ it there.
       unless (nat_lt 63 other) EBADF _ (either (fd == other) _ _ (unchanged_sound (Descriptor fd)) (record { numbers = (tt, tt); shares = (there, tt) })))

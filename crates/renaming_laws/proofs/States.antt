@@ -4,8 +4,8 @@ use Rattle.std.specs.declared.cmp.Ordering.{Ordering}
 use Rattle.std.specs.Cmp.{IsTotalOrder, nat_cmp_total}
 use Rattle.std.specs.Cmp.Lexicographic.{nat_list_cmp_total}
 use Rattle.model.specs.FiniteMap.{FinMap, get, empty, keys, values, nat_cmp-IsAntisymmetric, IsAntisymmetric}
-use Rattle.model.specs.State.{Name, name_cmp, Kind, Kernel, Inode, File, Directory, Pipe, Description, Process, kind, mapped, names_of_inode, file_of_inode, pipe_of_inode, names_of, file_of, pipe_of, kind_of, entry_of, offset_in, offset_of, links, ends, is_end}
-use Rattle.model.specs.Plan.{Look, List_names, Measure, Read_file, Count_links, Count_ends, Find_offset, Read_pipe, Fit, capacity}
+use Rattle.model.specs.State.{Name, name_cmp, Kind, Kernel, Inode, File, Directory, Pipe, Fixed, Description, Process, Rights, kind, mapped, names_of_inode, file_of_inode, pipe_of_inode, target_of_inode, names_of, file_of, pipe_of, target_of, kind_of, rights_or, rights_of, entry_of, offset_in, offset_of, links, ends, is_end}
+use Rattle.model.specs.Plan.{Look, List_names, Measure, Read_file, Count_links, Count_ends, Find_offset, Read_pipe, Fit, Read_target, Find_rights, capacity}
 use Rattle.model.specs.Changes.{or_new, process_of, holders, openings}
 use Rattle.model.proofs.Laws.{name_exact}
 use Rattle.call_laws.proofs.Laws.{sum-empty}
@@ -38,24 +38,35 @@ module _ (f : ℕ → ℕ) (r : IsRenaming f) where
   names_renamed (Some (File bytes)) = sym no_names
   names_renamed (Some (Directory names)) = refl
   names_renamed (Some (Pipe bytes)) = sym no_names
+  names_renamed (Some (Fixed fixed)) = sym no_names
 
   file_renamed : (x : Option Inode) → file_of_inode (mapped (renamed_inode f) x) ≡ file_of_inode x
   file_renamed None = refl
   file_renamed (Some (File bytes)) = refl
   file_renamed (Some (Directory names)) = refl
   file_renamed (Some (Pipe bytes)) = refl
+  file_renamed (Some (Fixed fixed)) = refl
 
   pipe_renamed : (x : Option Inode) → pipe_of_inode (mapped (renamed_inode f) x) ≡ pipe_of_inode x
   pipe_renamed None = refl
   pipe_renamed (Some (File bytes)) = refl
   pipe_renamed (Some (Directory names)) = refl
   pipe_renamed (Some (Pipe bytes)) = refl
+  pipe_renamed (Some (Fixed fixed)) = refl
+
+  target_renamed : (x : Option Inode) → target_of_inode (mapped (renamed_inode f) x) ≡ target_of_inode x
+  target_renamed None = refl
+  target_renamed (Some (File bytes)) = refl
+  target_renamed (Some (Directory names)) = refl
+  target_renamed (Some (Pipe bytes)) = refl
+  target_renamed (Some (Fixed fixed)) = refl
 
   kind_renamed : (x : Option Inode) → mapped kind (mapped (renamed_inode f) x) ≡ mapped kind x
   kind_renamed None = refl
   kind_renamed (Some (File bytes)) = refl
   kind_renamed (Some (Directory names)) = refl
   kind_renamed (Some (Pipe bytes)) = refl
+  kind_renamed (Some (Fixed fixed)) = refl
 
   pub names_at : (k : Kernel) (d : ℕ) → names_of (renamed f k) (f d) ≡ with_values f (names_of k d)
   names_at k d = ap names_of_inode (inode_at k d) ∙ names_renamed (get k.inodes d)
@@ -66,8 +77,21 @@ module _ (f : ℕ → ℕ) (r : IsRenaming f) where
   pub pipe_at : (k : Kernel) (p : ℕ) → pipe_of (renamed f k) (f p) ≡ pipe_of k p
   pipe_at k p = ap pipe_of_inode (inode_at k p) ∙ pipe_renamed (get k.inodes p)
 
+  pub target_at : (k : Kernel) (n : ℕ) → target_of (renamed f k) (f n) ≡ target_of k n
+  target_at k n = ap target_of_inode (inode_at k n) ∙ target_renamed (get k.inodes n)
+
   pub kind_at : (k : Kernel) (n : ℕ) → kind_of (renamed f k) (f n) ≡ kind_of k n
   kind_at k n = ap (mapped kind) (inode_at k n) ∙ kind_renamed (get k.inodes n)
+
+  mapped_same : {A : Type 0} (o : Option A) → mapped (λ (x : A). x) o ≡ o
+  mapped_same None = refl
+  mapped_same (Some x) = refl
+
+  pub set_at : (k : Kernel) (n : ℕ) → get (renamed f k).rights (f n) ≡ get k.rights n
+  set_at k n = get_at nat_cmp_total nat_cmp-IsAntisymmetric f r.again (λ (set : Rights). set) k.rights n ∙ mapped_same (get k.rights n)
+
+  rights_at : (k : Kernel) (n : ℕ) → rights_of (renamed f k) (f n) ≡ rights_of k n
+  rights_at k n = ap (λ o. rights_or o (kind_of (renamed f k) (f n))) (set_at k n) ∙ ap (rights_or (get k.rights n)) (kind_at k n)
 
   -- the number that a name gives
   pub given_at : (k : Kernel) (d : ℕ) (x : Name) → get (names_of (renamed f k) (f d)) x ≡ mapped f (get (names_of k d) x)
@@ -110,6 +134,7 @@ module _ (f : ℕ → ℕ) (r : IsRenaming f) where
   links_in n (File bytes) = none_counted n
   links_in n (Directory names) = counted_still nat_list_cmp_total name_exact names n
   links_in n (Pipe bytes) = none_counted n
+  links_in n (Fixed fixed) = none_counted n
 
   pub links_at : (k : Kernel) (n : ℕ) → links (renamed f k) (f n) ≡ links k n
   unfolding links
@@ -155,3 +180,5 @@ questions_are_renamed f r k (Count_ends p) = λ i. (ends_at f r (λ d. d.reading
 questions_are_renamed f r k (Find_offset d) = offset_at f r k d
 questions_are_renamed f r k (Read_pipe p count) = ap (take count) (pipe_at f r k p)
 questions_are_renamed f r k (Fit p count) = ap (λ (bytes : List ℕ). min count (capacity - length bytes)) (pipe_at f r k p)
+questions_are_renamed f r k (Read_target n) = target_at f r k n
+questions_are_renamed f r k (Find_rights n) = rights_at f r k n

@@ -1,15 +1,15 @@
 -- Of a run's calls only the status of the path `/` tells the root.
-use Rattle.std.proofs.Common.{◌≡◌, ◌≢◌, ◌⊎◌, ℕ, List, [], ◌∷◌, length, Result, Ok, Err, IfOk, inl, refl, sym, ap, subst, ◌∙◌}
+use Rattle.std.proofs.Common.{◌≡◌, ◌≢◌, ◌⊎◌, ℕ, List, [], ◌∷◌, length, Result, Ok, Err, IfOk, inl, inr, refl, sym, ap, subst, ◌∙◌}
 use Rattle.std.specs.List.{AllByRecursion}
-use Rattle.model.specs.State.{Kernel, A_directory}
+use Rattle.model.specs.State.{Kernel, A_directory, rights_of}
 use Rattle.model.specs.Plan.{Errno}
 use Rattle.model.specs.Changes.{Edit, all_applied, tidy}
-use Rattle.model.specs.Calls.{Call, Stat, Stated}
+use Rattle.model.specs.Calls.{Call, Stat, Lstat, Stated}
 use Rattle.model.specs.Plans.{Change}
 use Rattle.model.specs.Steps.{outcome, reply_of, edits_of, edits, reply, Item, Run}
 use Rattle.model.specs.Moments.{Setup, start}
 use Rattle.call_laws.proofs.Laws.{all-mapped}
-use Rattle.renaming_laws.specs.Laws.{SlotsAreThere, HasNumbers, TellsNot, TellsRoot, StatTellsTheRoot}
+use Rattle.renaming_laws.specs.Laws.{SlotsAreThere, HasNumbers, TellsNot, IsStatOfRoot, TellsRoot, StatTellsTheRoot}
 use Rattle.renaming_laws.proofs.Sound.{call_sound, edits_sound}
 use Rattle.renaming_laws.proofs.Slots as slots
 use Rattle.renaming_laws.proofs.Slots.{slots_at_start}
@@ -52,23 +52,31 @@ tells root k h (it ∷ items) after run =
     )
 
 -- and it tells it in every state
-pub root_is_told : (k : Kernel) (pid : ℕ) → reply k pid (Stat (47 ∷ [])) ≡ Ok (Stated (record { kind = A_directory; num = k.root; size = 0; links = 1 }))
+pub root_is_told : (k : Kernel) (pid : ℕ) → reply k pid (Stat (47 ∷ [])) ≡ Ok (Stated (record { kind = A_directory; num = k.root; size = 0; links = 1; rights = rights_of k k.root }))
 root_is_told k pid = refl
 
+pub root_is_told_by_lstat : (k : Kernel) (pid : ℕ) → reply k pid (Lstat (47 ∷ [])) ≡ Ok (Stated (record { kind = A_directory; num = k.root; size = 0; links = 1; rights = rights_of k k.root }))
+root_is_told_by_lstat k pid = refl
+
+told_by_either : (k : Kernel) (pid : ℕ) (call : Call) → IsStatOfRoot call → reply k pid call ≡ Ok (Stated (record { kind = A_directory; num = k.root; size = 0; links = 1; rights = rights_of k k.root }))
+told_by_either k pid call (inl is) = ap (reply k pid) is ∙ root_is_told k pid
+told_by_either k pid call (inr is) = ap (reply k pid) is ∙ root_is_told_by_lstat k pid
+
 -- so each status of that path that is answered in a run tells the run's own root
-told_by_stats : (root : ℕ) (k : Kernel) → HasRoot root k → (items : List Item) (after : Kernel) → Run k items after → AllByRecursion (λ it. it.call ≡ Stat (47 ∷ []) → TellsRoot root it.call it.answer) items
+told_by_stats : (root : ℕ) (k : Kernel) → HasRoot root k → (items : List Item) (after : Kernel) → Run k items after → AllByRecursion (λ it. IsStatOfRoot it.call → TellsRoot root it.call it.answer) items
 told_by_stats root k h [] after run = tt
 told_by_stats root k h (it ∷ items) after run =
     let step = run.1 in
     let mid : HasRoot root run.0 = subst (HasRoot root) (sym step.changed) (chosen.tidying_keeps root (all_applied it.chosen (edits k it.pid it.call) k) (chosen.edits_keep root it.chosen k (edits k it.pid it.call) h)) in (
       λ is. record {
         is_stat = is;
-        tells = step.replied ∙ ap (reply k it.pid) is ∙ root_is_told k it.pid ∙ ap (λ n. Ok (Stated (record { kind = A_directory; num = n; size = 0; links = 1 }))) h.is;
+        rights = rights_of k k.root;
+        tells = step.replied ∙ told_by_either k it.pid it.call is ∙ ap (λ n. Ok (Stated (record { kind = A_directory; num = n; size = 0; links = 1; rights = rights_of k k.root }))) h.is;
       },
       told_by_stats root run.0 mid items after run.2,
     )
 
-pub stats_tell_the_root : (root : ℕ) (setup : Setup) (items : List Item) (after : Kernel) → Run (start root setup) items after → AllByRecursion (λ it. it.call ≡ Stat (47 ∷ []) → TellsRoot root it.call it.answer) items
+pub stats_tell_the_root : (root : ℕ) (setup : Setup) (items : List Item) (after : Kernel) → Run (start root setup) items after → AllByRecursion (λ it. IsStatOfRoot it.call → TellsRoot root it.call it.answer) items
 stats_tell_the_root root setup items after run = told_by_stats root (start root setup) (root_at_start root setup) items after run
 
 pub stat_tells_the_root : StatTellsTheRoot

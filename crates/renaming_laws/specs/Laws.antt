@@ -3,11 +3,11 @@ use Rattle.std.specs.Prelude.{◌≡◌, ◌≢◌, ◌⊎◌, ℕ, ◌+◌, ◌
 use Rattle.std.specs.Prelude.{Result, Ok, ⊤}
 use Rattle.std.specs.List.{AllByRecursion}
 use Rattle.model.specs.FiniteMap.{get}
-use Rattle.model.specs.State.{Kernel, A_directory}
+use Rattle.model.specs.State.{Kernel, Rights, A_directory}
 use Rattle.model.specs.Plan.{Errno, Question, answer}
-use Rattle.model.specs.Changes.{Which, There, Made, Edit, Make_directory, Make_file, Open_inode}
-use Rattle.model.specs.Changes.{Make_pipe, applied, all_applied, tidy, process_of}
-use Rattle.model.specs.Calls.{Call, Stat, Answer, Stated, own}
+use Rattle.model.specs.Changes.{Which, There, Made, Edit, Make_directory, Make_file, Make_fixed}
+use Rattle.model.specs.Changes.{Open_inode, Make_pipe, applied, all_applied, tidy, process_of}
+use Rattle.model.specs.Calls.{Call, Stat, Lstat, Answer, Stated, own}
 use Rattle.model.specs.Steps.{reply, edits, IsNowhere, CanBeChosen, Step, Item, Run}
 use Rattle.model.specs.Moments.{Setup, start}
 use Rattle.renaming_laws.specs.Renaming.{IsRenaming, swap, renamed}
@@ -28,6 +28,7 @@ IsAmong count (Made i) = i < count
 abbrev pub HasNumbers : ℕ → Edit → Type 0
 HasNumbers count (Make_directory d x i) = i < count
 HasNumbers count (Make_file d x i) = i < count
+HasNumbers count (Make_fixed d x fixed i) = i < count
 HasNumbers count (Open_inode i inode mode pid fd) = (i < count) × IsAmong count inode
 HasNumbers count (Make_pipe i pid reader writer) = i + 2 < count
 HasNumbers count _ = ⊤
@@ -108,10 +109,22 @@ OnlyChosenAreTold =
     → AllByRecursion (ChoosesNot n) items → Run (start root setup) items after
     → AllByRecursion (λ it. TellsNot n it.answer) items
 
+-- the two calls for the status of the path `/`
+abbrev pub IsStatOfRoot : Call → Type 0
+IsStatOfRoot call = (call ≡ Stat (47 ∷ [])) ⊎ (call ≡ Lstat (47 ∷ []))
+
 -- Only the status of the path `/` tells the root.
 pub record TellsRoot (root : ℕ) (call : Call) (answer : Result Answer Errno) : Type 0 where
-  pub is_stat : call ≡ Stat (47 ∷ [])
-  pub tells : answer ≡ Ok (Stated (record { kind = A_directory; num = root; size = 0; links = 1 }))
+  pub is_stat : IsStatOfRoot call
+  pub rights : Rights
+  pub tells : answer
+      ≡ Ok (Stated (record {
+        kind = A_directory;
+        num = root;
+        size = 0;
+        links = 1;
+        rights = rights;
+      }))
 
 abbrev pub StatTellsTheRoot : Type 0
 StatTellsTheRoot =

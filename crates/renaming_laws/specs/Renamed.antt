@@ -2,11 +2,12 @@
 use Rattle.std.specs.Prelude.{ℕ, map, Option, Result, Ok, Err}
 use Rattle.model.specs.State.{Kind, mapped}
 use Rattle.model.specs.Plan.{Errno, Question, Shown, Look, List_names, Measure, Read_file}
-use Rattle.model.specs.Plan.{Count_links, Count_ends, Find_offset, Read_pipe, Fit}
+use Rattle.model.specs.Plan.{Count_links, Count_ends, Find_offset, Read_pipe, Fit, Read_target}
+use Rattle.model.specs.Plan.{Find_rights}
 use Rattle.model.specs.Changes.{Which, There, Made, Replaced, Over_nothing, Over_file}
-use Rattle.model.specs.Changes.{Over_directory, Edit, Make_directory, Make_file, Name_file}
-use Rattle.model.specs.Changes.{Unname_file, Unname_directory, Move, Put_bytes, Cut, Take, Append}
-use Rattle.model.specs.Changes.{Set_offset, Open_inode, Make_pipe, Share_slot, Clear_slot}
+use Rattle.model.specs.Changes.{Over_directory, Edit, Make_directory, Make_file, Make_fixed}
+use Rattle.model.specs.Changes.{Name_file, Unname_file, Unname_directory, Move, Put_bytes, Cut, Take, Append}
+use Rattle.model.specs.Changes.{Set_offset, Set_rights, Open_inode, Make_pipe, Share_slot, Clear_slot}
 use Rattle.model.specs.Changes.{New_process, End_process}
 use Rattle.model.specs.Calls.{Answer, Stated, Slot, Own}
 use Rattle.model.specs.Plans.{Change}
@@ -23,6 +24,8 @@ renamed_question f (Count_ends p) = Count_ends (f p)
 renamed_question f (Find_offset d) = Find_offset (f d)
 renamed_question f (Read_pipe p count) = Read_pipe (f p) count
 renamed_question f (Fit p count) = Fit (f p) count
+renamed_question f (Read_target n) = Read_target (f n)
+renamed_question f (Find_rights n) = Find_rights (f n)
 
 -- a number with its kind
 abbrev pub renamed_place : (ℕ → ℕ) → ℕ × Option Kind → ℕ × Option Kind
@@ -39,6 +42,8 @@ renamed_shown f (Count_ends p) counts = counts
 renamed_shown f (Find_offset d) offset = offset
 renamed_shown f (Read_pipe p count) bytes = bytes
 renamed_shown f (Fit p count) fitting = fitting
+renamed_shown f (Read_target n) target = target
+renamed_shown f (Find_rights n) rights = rights
 
 abbrev pub renamed_slot : (ℕ → ℕ) → Slot → Slot
 renamed_slot f s = record s { description = f s.description; inode = f s.inode }
@@ -61,6 +66,7 @@ renamed_replaced f (Over_directory n) = Over_directory (f n)
 abbrev pub renamed_edit : (ℕ → ℕ) → Edit → Edit
 renamed_edit f (Make_directory d x i) = Make_directory (f d) x i
 renamed_edit f (Make_file d x i) = Make_file (f d) x i
+renamed_edit f (Make_fixed d x fixed i) = Make_fixed (f d) x fixed i
 renamed_edit f (Name_file d x n) = Name_file (f d) x (f n)
 renamed_edit f (Unname_file d x n) = Unname_file (f d) x (f n)
 renamed_edit f (Unname_directory d x n) = Unname_directory (f d) x (f n)
@@ -70,6 +76,7 @@ renamed_edit f (Cut n before after) = Cut (f n) before after
 renamed_edit f (Take p count) = Take (f p) count
 renamed_edit f (Append p bytes) = Append (f p) bytes
 renamed_edit f (Set_offset d place) = Set_offset (f d) place
+renamed_edit f (Set_rights n rights) = Set_rights (f n) rights
 renamed_edit f (Open_inode i inode mode pid fd) = Open_inode i (renamed_which f inode) mode pid fd
 renamed_edit f (Make_pipe i pid reader writer) = Make_pipe i pid reader writer
 renamed_edit f (Share_slot pid fd d pipes) = Share_slot pid fd (f d) (map f pipes)
@@ -77,7 +84,7 @@ renamed_edit f (Clear_slot pid fd pipes) = Clear_slot pid fd (map f pipes)
 renamed_edit f (New_process child parent pipes) = New_process child parent (map f pipes)
 renamed_edit f (End_process pid pipes) = End_process pid (map f pipes)
 
--- of answers `stat` and `fstat` alone tell an object's number
+-- of answers those of `stat`, `lstat` and `fstat` alone tell an object's number
 abbrev pub renamed_answer : (ℕ → ℕ) → Answer → Answer
 renamed_answer f (Stated s) = Stated (record s { num = f s.num })
 renamed_answer f answer = answer

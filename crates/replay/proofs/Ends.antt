@@ -2,15 +2,15 @@
 use Rattle.std.proofs.Common.{◌≡◌, ℕ, zero, suc, ◌+◌, ◌-◌, ◌<◌, ◌≤◌, ◌==◌, nat_le, nat_lt, not, Bool, true, false, if◌then◌else◌, List, [], ◌∷◌, length, take, min, Option, Some, None, Result, Ok, Err, IfOk, sym, subst, arith}
 use Rattle.std.specs.Prelude.{ℤ, pos, negsuc, ◌+ℤ◌, ◌++◌, ◌&&◌, ◌||◌}
 use Rattle.std.proofs.Math.Nat.{min-le_left}
-use Rattle.std.specs.List.{AllByRecursion}
-use Rattle.model.specs.State.{A_file, A_directory, A_pipe, Kernel}
+use Rattle.std.specs.List.{AllByRecursion, list_any}
+use Rattle.model.specs.State.{A_file, A_directory, A_pipe, A_link, A_fifo, A_socket, Kernel}
 use Rattle.model.specs.Limits.{largest_file}
-use Rattle.model.specs.Plan.{Errno, Plan, Give, answer as answer_to, given, ◌>>=◌, ◌>>◌, ENOENT, ENOTDIR, ENOTEMPTY, EEXIST, EBUSY, EISDIR, EINVAL, EBADF, EFBIG, EPERM, ESPIPE, EPIPE, EAGAIN, List_names, Count_ends, Find_offset, Read_pipe, Read_file, Fit, refuse_if, or_refuse}
-use Rattle.model.specs.Calls.{Call, Dup, Dup2, Open, Close, Read, Pread, Write, Pwrite, Lseek, Ftruncate, Truncate, Stat, Fstat, Link, Unlink, Rename, Mkdir, Rmdir, List_directory, Open_pipe, Fork, Exit, Descriptor, OpenFlags, Own, Slot, own}
+use Rattle.model.specs.Plan.{Errno, Plan, Give, answer as answer_to, given, ◌>>=◌, ◌>>◌, ENOENT, ENOTDIR, ENOTEMPTY, EEXIST, EBUSY, EISDIR, EINVAL, ELOOP, ENAMETOOLONG, ENXIO, EBADF, EFBIG, EPERM, ESPIPE, EPIPE, EAGAIN, List_names, Count_ends, Find_offset, Read_pipe, Read_file, Fit, refuse_if, or_refuse}
+use Rattle.model.specs.Calls.{Call, Dup, Dup2, Open, Close, Read, Pread, Write, Pwrite, Lseek, Ftruncate, Truncate, Stat, Fstat, Link, Unlink, Rename, Mkdir, Rmdir, List_directory, Symlink, Readlink, Lstat, Mknod, Chmod, Chown, Fchmod, Fchown, Open_pipe, Fork, Exit, Descriptor, OpenFlags, Own, Slot, own}
 use Rattle.model.specs.Changes.{Edit, There, Open_inode, Set_offset, Put_bytes, Cut}
 use Rattle.model.specs.Paths.{is_empty, is_below}
-use Rattle.model.specs.Walks.{Place, Last, parsed, walk, last_of, is_directory}
-use Rattle.model.specs.Plans.{Change, changed, duplicated, plan, status as told_status, absent, slot, free, first_of_free, is_pipe, mode, opened, cut_to, read_some, write_some, offset_named, write_from, read_pipe, piped, forked, whole_write, most_processes, place_to_write, base, sought, moved, replaced_by_name, room, most_moved}
+use Rattle.model.specs.Walks.{Place, Last, parsed, walk, last_of, is_directory, is_link}
+use Rattle.model.specs.Plans.{Change, changed, is_special, target_limit, duplicated, plan, status as told_status, absent, slot, free, first_of_free, is_pipe, mode, opened, cut_to, read_some, write_some, offset_named, write_from, read_pipe, piped, forked, whole_write, most_processes, place_to_write, base, sought, moved, replaced_by_name, room, most_moved}
 use Rattle.model.specs.Steps.{edits, edits_of}
 use Rattle.ids.specs.Flags.{is_reading, is_writing, is_creating, is_exclusive, is_truncating}
 use Rattle.call_laws.proofs.Laws.{after_bind, allowed, either_given, whatever}
@@ -30,12 +30,15 @@ tells : (k : Kernel) (place : Place) → IfOk (given k (told_status place)) With
 tells k (n, Some A_file) = tt
 tells k (n, Some A_directory) = tt
 tells k (n, Some A_pipe) = tt
+tells k (n, Some A_link) = tt
+tells k (n, Some A_fifo) = tt
+tells k (n, Some A_socket) = tt
 tells k (n, None) = tt
 
 opens : (k : Kernel) (o : Own) (flags : OpenFlags) (f : ℕ) (at : Last) (there : Option Place) → IfOk (given k (opened o flags f at there)) Within
 opens k o flags f at None = unless k (not (is_creating flags)) ENOENT _ (tt, (tt, tt))
 opens k o flags f at (Some place) =
-    unless k (is_creating flags && is_exclusive flags) EEXIST _ (unless k (is_directory place) EISDIR _ (by_test (is_truncating flags)))
+    unless k (is_creating flags && is_exclusive flags) EEXIST _ (unless k (is_directory place) EISDIR _ (unless k (is_link place) ELOOP _ (unless k (is_special place) ENXIO _ (by_test (is_truncating flags)))))
   where
     by_test : (b : Bool) → IfOk (given k ((if b then cut_to place.0 0 else Give []) >>= (λ es. changed (Descriptor f) (es ++ Open_inode 0 (There place.0) (mode flags) o.pid f ∷ [])))) Within
     by_test true = (omega arith, (tt, tt))
@@ -111,9 +114,9 @@ planned k pid low (Write f bytes) = after k (slot (own k pid (Write f bytes)) f)
 planned k pid low (Pwrite f bytes offset) = after k (slot (own k pid (Pwrite f bytes offset)) f) _ (λ it. unless k (not it.writing) EBADF _ (unless k (is_pipe it.kind) ESPIPE _ (after k (or_refuse EINVAL (offset_named offset)) _ (λ at. either_given k Within (is_empty bytes) _ _ (λ _. tt) (λ _. puts k k.largest low it.inode at bytes)))))
 planned k pid low (Lseek f move whence) = after k (slot (own k pid (Lseek f move whence)) f) _ (λ it. unless k (is_pipe it.kind) ESPIPE _ (after k (base it whence) _ (λ offset. seeks k k.largest it (pos offset +ℤ move))))
 planned k pid low (Ftruncate f len) = after k (slot (own k pid (Ftruncate f len)) f) _ (λ it. unless k (not it.writing) EBADF _ (unless k (is_pipe it.kind) EINVAL _ (allowed k Within (nat_lt k.largest len) EFBIG _ (λ above. (len_ends k.largest len low above, tt)))))
-planned k pid low (Truncate path len) = after k (parsed path) _ (λ names. after k (walk (k.root, Some A_directory) names) _ (λ place. unless k (is_directory place) EISDIR _ (allowed k Within (nat_lt k.largest len) EFBIG _ (λ above. (len_ends k.largest len low above, tt)))))
+planned k pid low (Truncate path len) = after k (parsed path) _ (λ names. after k (walk (k.root, Some A_directory) names) _ (λ place. unless k (is_directory place) EISDIR _ (unless k (is_link place) ELOOP _ (unless k (is_special place) EINVAL _ (allowed k Within (nat_lt k.largest len) EFBIG _ (λ above. (len_ends k.largest len low above, tt)))))))
 planned k pid low (Fstat f) = after k (slot (own k pid (Fstat f)) f) _ (λ it. tells k (it.inode, it.kind))
-planned k pid low (Stat path) = after k (parsed path) _ (λ names. after k (walk (k.root, Some A_directory) names) _ (tells k))
+planned k pid low (Stat path) = after k (parsed path) _ (λ names. after k (walk (k.root, Some A_directory) names) _ (λ place. unless k (is_link place) ELOOP _ (tells k place)))
 planned k pid low (Link old path) =
     after k (parsed old) _ (λ from. after k (parsed path) _ (λ to. after k (walk (k.root, Some A_directory) from) _ (λ what. unless k (is_directory what) EPERM _ (
     after k (last_of k.root EEXIST to) _ (λ at. after k (absent at.found) _ (λ _. (tt, tt)))))))
@@ -126,7 +129,16 @@ planned k pid low (Rename old path) =
 planned k pid low (Mkdir path) = after k (parsed path) _ (λ names. after k (last_of k.root EEXIST names) _ (λ at. after k (absent at.found) _ (λ _. (tt, tt))))
 planned k pid low (Rmdir path) =
     after k (parsed path) _ (λ names. after k (last_of k.root EBUSY names) _ (λ at. after k (or_refuse ENOENT at.found) _ (λ what. unless k (not (is_directory what)) ENOTDIR _ (unless k (not (is_empty (answer_to k (List_names what.0)))) ENOTEMPTY _ (tt, tt)))))
-planned k pid low (List_directory path) = after k (parsed path) _ (λ names. after k (walk (k.root, Some A_directory) names) _ (λ place. unless k (not (is_directory place)) ENOTDIR _ tt))
+planned k pid low (List_directory path) = after k (parsed path) _ (λ names. after k (walk (k.root, Some A_directory) names) _ (λ place. unless k (is_link place) ELOOP _ (unless k (not (is_directory place)) ENOTDIR _ tt)))
+planned k pid low (Symlink target path) = unless k (is_empty target) ENOENT _ (unless k (nat_lt target_limit (length target)) ENAMETOOLONG _ (unless k (list_any (λ b. b == 0) target) EINVAL _ (
+    after k (parsed path) _ (λ names. after k (last_of k.root EEXIST names) _ (λ at. after k (absent at.found) _ (λ _. (tt, tt)))))))
+planned k pid low (Readlink path) = after k (parsed path) _ (λ names. after k (walk (k.root, Some A_directory) names) _ (λ place. unless k (not (is_link place)) EINVAL _ tt))
+planned k pid low (Lstat path) = after k (parsed path) _ (λ names. after k (walk (k.root, Some A_directory) names) _ (tells k))
+planned k pid low (Mknod path special) = after k (parsed path) _ (λ names. after k (last_of k.root EEXIST names) _ (λ at. after k (absent at.found) _ (λ _. (tt, tt))))
+planned k pid low (Chmod path permissions) = after k (parsed path) _ (λ names. after k (walk (k.root, Some A_directory) names) _ (λ place. unless k (is_link place) ELOOP _ (tt, tt)))
+planned k pid low (Chown path owner) = after k (parsed path) _ (λ names. after k (walk (k.root, Some A_directory) names) _ (λ place. (tt, tt)))
+planned k pid low (Fchmod f permissions) = after k (slot (own k pid (Fchmod f permissions)) f) _ (λ it. (tt, tt))
+planned k pid low (Fchown f owner) = after k (slot (own k pid (Fchown f owner)) f) _ (λ it. (tt, tt))
 planned k pid low (Dup f) = after k (slot (own k pid (Dup f)) f) _ (λ it. shares k (own k pid (Dup f)) it (free (own k pid (Dup f))))
 planned k pid low (Dup2 f g) = after k (slot (own k pid (Dup2 f g)) f) _ (λ it. unless k (nat_lt 63 g) EBADF _ (either_given k Within (f == g) _ _ (λ _. tt) (λ _. (tt, tt))))
 planned k pid low Open_pipe = pairs k (own k pid Open_pipe) (free (own k pid Open_pipe))

@@ -4,14 +4,14 @@ use Rattle.std.specs.List.{AllByRecursion}
 use Rattle.std.proofs.lemmas.Bool.{cases_eq}
 use Rattle.model.specs.State.{Kernel}
 use Rattle.model.specs.Plan.{Errno}
-use Rattle.model.specs.Calls.{Stat, Answer, Stated}
+use Rattle.model.specs.Calls.{Answer, Stated}
 use Rattle.model.specs.Steps.{Item, Run}
 use Rattle.model.specs.Entries.{Op, Reply, Entry, Executed}
 use Rattle.model.specs.Moments.{Setup, Status, gone, idle, live, doomed, Moment, status, next, after, after_from, at_start, start, run_by, calls_of}
 use Rattle.model.specs.Legal.{items, serial, serial_from}
 use Rattle.model.proofs.Laws.{all-append, append-all}
 use Rattle.renaming_laws.specs.Renaming.{swap, renamed}
-use Rattle.renaming_laws.specs.Laws.{TellsNot, TellsRoot, ChoosesNot}
+use Rattle.renaming_laws.specs.Laws.{IsStatOfRoot, TellsNot, TellsRoot, ChoosesNot}
 use Rattle.renaming_laws.specs.Histories.{AlikeStatus, both_gone, both_idle, both_live, both_doomed, AllAlike}
 use Rattle.renaming_laws.proofs.Laws.{root_is_free, root_is_free_in_histories, root_is_never_chosen, stat_tells_the_root, stats_tell_the_root}
 use Rattle.model.specs.Suits.{suits}
@@ -32,7 +32,7 @@ number_told (Err e) = 0
 
 -- What runs for two roots tells neither.
 module _ (a b : ℕ) (apart : a ≢ b) where
-  neither : (its : List Item) → AllByRecursion (λ it. TellsNot a it.answer ⊎ TellsRoot a it.call it.answer) its → AllByRecursion (λ it. it.call ≡ Stat (47 ∷ []) → TellsRoot b it.call it.answer) its → AllByRecursion (λ it. TellsNot a it.answer) its
+  neither : (its : List Item) → AllByRecursion (λ it. TellsNot a it.answer ⊎ TellsRoot a it.call it.answer) its → AllByRecursion (λ it. IsStatOfRoot it.call → TellsRoot b it.call it.answer) its → AllByRecursion (λ it. TellsNot a it.answer) its
   neither [] h g = tt
   neither (it ∷ its) h g = (
     elim h.0 [ inl quiet ↦ quiet | inr tells ↦ absurd (apart (ap number_told (sym tells.tells ∙ (g.0 tells.is_stat).tells))) ],

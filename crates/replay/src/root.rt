@@ -1,9 +1,9 @@
-// The number of the root, which a history tells by a `stat` of it alone.
-ghost use Rattle.std.specs.Prelude.{◌≡◌, ◌≢◌, ◌∷◌, ℕ, List, [], All, IfOk, Some};
+// The number of the root, which a history tells by a `stat` or an `lstat` of it alone.
+ghost use Rattle.std.specs.Prelude.{◌≡◌, ◌≢◌, ◌∷◌, ℕ, List, [], All, IfOk, Some, true};
 ghost use Rattle.std.specs.List.{AllByRecursion};
 ghost use Rattle.std.specs.List.Sorted.{IsNonDecreasing};
 ghost use Rattle.model.specs.Entries.{Executed};
-ghost use Rattle.renaming_laws.specs.Laws.{TellsRoot};
+ghost use Rattle.renaming_laws.specs.Laws.{IsStatOfRoot, TellsRoot};
 ghost use Rattle.replay.specs.Failing.{IsUnchosen, TellsAt};
 ghost use Rattle.replay.specs.Transactions.{call_in};
 
@@ -49,14 +49,25 @@ fn first_missing(rising: &[usize]) -> usize
     missing
 }
 
-// What an entry tells of the root's number, if it is an executed `stat` of it.
+// Whether a call is for the status of the path `/`.
+fn is_stat_of_root(call: &Call) -> bool
+    ensures { IsStatOfRoot call.now → result ≡ true }
+{
+    match call {
+        Call::Stat(path) | Call::Lstat(path) => path.as_slice() == b"/".as_slice(),
+        _ => false,
+    }
+}
+
+// What an entry tells of the root's number, if it is an executed `stat` or `lstat` of it.
 pub(crate) fn told_root(entries: &[Entry], position: usize) -> Option<Num>
     ensures { (root : ℕ) → TellsAt root entries.now position → result ≡ Some root }
 {
     let entry = entries.get(position)?;
     match (&entry.op, &entry.reply) {
-        (Op::Call(Call::Stat(path)), Reply::Answer(Answer::Stat(stat)))
-            if path.as_slice() == b"/".as_slice() => { Some(stat.num) }
+        (Op::Call(call), Reply::Answer(Answer::Stat(stat))) if is_stat_of_root(call) => {
+            Some(stat.num)
+        }
         _ => None,
     }
 }

@@ -9,6 +9,8 @@ use Rattle.ids.specs.declared.flags.OpenFlags.{OpenFlags}
 use Rattle.ids.specs.declared.flags.BeginFlags.{BeginFlags}
 use Rattle.ids.specs.declared.call.Whence.{Whence}
 use Rattle.ids.specs.declared.call.Whence.TheVariants.{Set, Cur, End}
+use Rattle.ids.specs.declared.fixed.Special.{Special}
+use Rattle.ids.specs.declared.fixed.Special.TheVariants.{Fifo, Socket}
 
 -- the flags with these bits
 abbrev pub open_flags : ℕ → OpenFlags
@@ -54,3 +56,9 @@ whence_in word =
     if bytes_eq word (codes "SET") then Some Set
     else if bytes_eq word (codes "CUR") then Some Cur
     else if bytes_eq word (codes "END") then Some End else None
+
+-- what a mknod makes
+abbrev pub special_in : List ℕ → Option Special
+special_in word =
+    if bytes_eq word (codes "fifo") then Some Fifo
+    else if bytes_eq word (codes "socket") then Some Socket else None

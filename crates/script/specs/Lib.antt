@@ -5,6 +5,7 @@ pub mod Lines
 pub mod Numbers
 pub mod Operations
 pub mod Pieces
+pub mod Rights
 pub mod Schedules
 pub mod Scripts
 pub mod Steps

@@ -5,12 +5,14 @@ use Rattle.std.specs.Option.{option_and_then}
 use Rattle.std.specs.Str.{bytes_eq}
 use Rattle.script.specs.Pieces.{one_of, two_of, three_of, four_of}
 use Rattle.script.specs.Numbers.{decimal_in, offset_in, byte_in}
+use Rattle.script.specs.Rights.{id_in, permissions_in}
 use Rattle.script.specs.Texts.{text_in}
-use Rattle.script.specs.Flags.{flags_in, begin_flags, begin_flags_in, whence_in}
+use Rattle.script.specs.Flags.{flags_in, begin_flags, begin_flags_in, special_in, whence_in}
 use Rattle.script.specs.declared.limits.TheConstants.{TRANSFER_LIMIT}
 use Rattle.ids.specs.declared.flags.BeginFlags.{BeginFlags}
 use Rattle.ids.specs.declared.call.Op.{Op}
 use Rattle.ids.specs.declared.call.Op.TheVariants as op
+use Rattle.ids.specs.declared.rights.NewOwner.{NewOwner}
 use Rattle.ids.specs.declared.call.Call.{Call}
 use Rattle.ids.specs.declared.call.Call.TheVariants as call
 use Rattle.script.specs.declared.verb.Verb.{Verb}
@@ -69,6 +71,9 @@ number_in word = decimal_in (2 ^ 32 - 1) word
 abbrev pub fd_in : List ℕ → Option ℕ
 fd_in word = number_in word
 
+abbrev pub new_owner : Option ℕ → Option ℕ → NewOwner
+new_owner user group = record { user = user; group = group }
+
 abbrev pub no_arguments : {A : Type 0} → A → List (List ℕ) → Option A
 no_arguments x [] = Some x
 no_arguments x (_ ∷ _) = None
@@ -83,7 +88,8 @@ abort_of [] = Some false
 abort_of (word ∷ []) = if bytes_eq word (codes "no_restart") then Some true else None
 abort_of (_ ∷ _ ∷ _) = None
 
--- of a word on descriptors and numbers, on a path, on two, and on neither
+-- of a word on descriptors and numbers, on a path, on two, which is also on a target and a path, and
+-- on neither
 abbrev pub fd_arguments : FdVerb → List (List ℕ) → Option Op
 fd_arguments fd_verb.Close args = option_map (λ fd. op.Call (call.Close fd)) (one fd_in args)
 fd_arguments fd_verb.Fstat args = option_map (λ fd. op.Call (call.Fstat fd)) (one fd_in args)
@@ -99,6 +105,10 @@ fd_arguments fd_verb.Ftruncate args =
     option_map (λ p. op.Call (call.Ftruncate p.0 p.1)) (two fd_in number_in args)
 fd_arguments fd_verb.Dup2 args =
     option_map (λ p. op.Call (call.Dup2 p.0 p.1)) (two fd_in fd_in args)
+fd_arguments fd_verb.Fchmod args =
+    option_map (λ p. op.Call (call.Fchmod p.0 p.1)) (two fd_in permissions_in args)
+fd_arguments fd_verb.Fchown args =
+    option_map (λ p. op.Call (call.Fchown p.0 (new_owner p.1 p.2))) (three fd_in id_in id_in args)
 
 abbrev pub on_path : PathVerb → List ℕ → Call
 on_path path_verb.Stat path = call.Stat path
@@ -106,6 +116,8 @@ on_path path_verb.Unlink path = call.Unlink path
 on_path path_verb.Mkdir path = call.Mkdir path
 on_path path_verb.Rmdir path = call.Rmdir path
 on_path path_verb.List path = call.List path
+on_path path_verb.Readlink path = call.Readlink path
+on_path path_verb.Lstat path = call.Lstat path
 
 abbrev pub path_arguments : PathVerb → List (List ℕ) → Option Op
 path_arguments v args = option_map (λ path. op.Call (on_path v path)) (one text_in args)
@@ -115,6 +127,8 @@ paths_arguments paths_verb.Link args =
     option_map (λ p. op.Call (call.Link p.0 p.1)) (two text_in text_in args)
 paths_arguments paths_verb.Rename args =
     option_map (λ p. op.Call (call.Rename p.0 p.1)) (two text_in text_in args)
+paths_arguments paths_verb.Symlink args =
+    option_map (λ p. op.Call (call.Symlink p.0 p.1)) (two text_in text_in args)
 
 abbrev pub bare_arguments : BareVerb → List (List ℕ) → Option Op
 bare_arguments bare_verb.Pipe args = no_arguments (op.Call call.Pipe) args
@@ -138,6 +152,12 @@ arguments verb.Pfill args =
     (four fd_in (decimal_in TRANSFER_LIMIT) byte_in offset_in args)
 arguments verb.Truncate args =
     option_map (λ p. op.Call (call.Truncate p.0 p.1)) (two text_in number_in args)
+arguments verb.Mknod args =
+    option_map (λ p. op.Call (call.Mknod p.0 p.1)) (two text_in special_in args)
+arguments verb.Chmod args =
+    option_map (λ p. op.Call (call.Chmod p.0 p.1)) (two text_in permissions_in args)
+arguments verb.Chown args =
+    option_map (λ p. op.Call (call.Chown p.0 (new_owner p.1 p.2))) (three text_in id_in id_in args)
 arguments (verb.OnFd v) args = fd_arguments v args
 arguments (verb.OnPath v) args = path_arguments v args
 arguments (verb.OnPaths v) args = paths_arguments v args

@@ -24,9 +24,21 @@ path_verb_in word =
     else if bytes_eq word (codes "mkdir") then Some (verb.OnPath path.Mkdir)
     else if bytes_eq word (codes "rmdir") then Some (verb.OnPath path.Rmdir)
     else if bytes_eq word (codes "list") then Some (verb.OnPath path.List)
+    else if bytes_eq word (codes "readlink") then Some (verb.OnPath path.Readlink)
+    else if bytes_eq word (codes "lstat") then Some (verb.OnPath path.Lstat)
     else if bytes_eq word (codes "link") then Some (verb.OnPaths paths.Link)
     else if bytes_eq word (codes "rename") then Some (verb.OnPaths paths.Rename)
+    else if bytes_eq word (codes "symlink") then Some (verb.OnPaths paths.Symlink)
     else bare_verb_in word
+
+-- of those that set permissions and owners
+abbrev pub rights_verb_in : List ℕ → Option Verb
+rights_verb_in word =
+    if bytes_eq word (codes "chmod") then Some verb.Chmod
+    else if bytes_eq word (codes "chown") then Some verb.Chown
+    else if bytes_eq word (codes "fchmod") then Some (verb.OnFd fd.Fchmod)
+    else if bytes_eq word (codes "fchown") then Some (verb.OnFd fd.Fchown)
+    else path_verb_in word
 
 -- the operation that a word names
 abbrev pub verb_in : List ℕ → Option Verb
@@ -44,4 +56,5 @@ verb_in word =
     else if bytes_eq word (codes "lseek") then Some (verb.OnFd fd.Lseek)
     else if bytes_eq word (codes "ftruncate") then Some (verb.OnFd fd.Ftruncate)
     else if bytes_eq word (codes "truncate") then Some verb.Truncate
-    else if bytes_eq word (codes "dup2") then Some (verb.OnFd fd.Dup2) else path_verb_in word
+    else if bytes_eq word (codes "dup2") then Some (verb.OnFd fd.Dup2)
+    else if bytes_eq word (codes "mknod") then Some verb.Mknod else rights_verb_in word

@@ -1,11 +1,12 @@
 // Sets of flags in their spelling.
 ghost use Rattle.std.specs.Prelude.{◌≡◌, option_map};
 ghost use Rattle.ids.specs.Flags.{open_bits};
-ghost use Rattle.script.specs.Flags.{begin_flags_in, flag_in, flags_in, whence_in};
+ghost use Rattle.script.specs.Flags.{begin_flags_in, flag_in, flags_in, special_in};
+ghost use Rattle.script.specs.Flags.{whence_in};
 
 use crate::pieces::Pieces;
 use crate::table::lookup;
-use ids::{BeginFlags, OpenFlags, Whence};
+use ids::{BeginFlags, OpenFlags, Special, Whence};
 
 // The names of single flags.
 static FLAGS: [(&str, OpenFlags); 6] = [
@@ -29,6 +30,9 @@ static WHENCES: [(&str, Whence); 3] = [
     ("CUR", Whence::Cur),
     ("END", Whence::End),
 ];
+
+// The names of what a mknod makes.
+static SPECIALS: [(&str, Special); 2] = [("fifo", Special::Fifo), ("socket", Special::Socket)];
 
 // The flags that a name says.
 fn flag_in(name: &[u8]) -> Option<OpenFlags>
@@ -74,4 +78,11 @@ pub(crate) fn whence_in(word: &[u8]) -> Option<Whence>
     ensures { result ≡ whence_in word.now }
 {
     lookup(&WHENCES, word)
+}
+
+// What a mknod makes.
+pub(crate) fn special_in(word: &[u8]) -> Option<Special>
+    ensures { result ≡ special_in word.now }
+{
+    lookup(&SPECIALS, word)
 }

@@ -14,6 +14,7 @@ mod number;
 mod operation;
 mod pieces;
 mod read;
+mod rights;
 mod schedule;
 mod steps;
 mod table;

@@ -4,19 +4,21 @@ ghost use Rattle.script.specs.Operations.{abort_of, arguments, bare_arguments};
 ghost use Rattle.script.specs.Operations.{begin_of, fd_arguments, fd_in, four, on_path};
 ghost use Rattle.script.specs.Operations.{one, path_arguments, paths_arguments, three, two};
 ghost use Rattle.script.specs.Numbers.{byte_in, decimal_in, offset_in};
+ghost use Rattle.script.specs.Rights.{id_in, permissions_in};
 ghost use Rattle.script.specs.Texts.{text_in};
-ghost use Rattle.script.specs.Flags.{flags_in, whence_in};
+ghost use Rattle.script.specs.Flags.{flags_in, special_in, whence_in};
 ghost use Rattle.script.specs.Words.{Reads};
 
-use crate::flags::{begin_flags_in, flags_in, whence_in};
+use crate::flags::{begin_flags_in, flags_in, special_in, whence_in};
 use crate::limits::TRANSFER_LIMIT;
 use crate::number::{byte_in, number_in, offset_in};
 use crate::pieces::Pieces;
+use crate::rights::{id_in, permissions_in};
 use crate::text::text_in;
 use crate::verb::{BareVerb, FdVerb, PathVerb, PathsVerb, Verb};
 use crate::word::{WordFault, op_spelled};
 use heap::Heap;
-use ids::{BeginFlags, Bytes, Call, Fd, Op, Whence};
+use ids::{BeginFlags, Bytes, Call, Fd, NewOwner, Op, Permissions, Whence};
 
 fn fd_in(word: &[u8]) -> Option<Fd>
     ensures { result ≡ fd_in word.now }
@@ -37,7 +39,7 @@ fn one_text(heap: Heap, args: &mut Pieces<'_>) -> Result<Bytes, WordFault>
     }
 }
 
-// The two texts of an operation on two paths.
+// The two texts of an operation on two paths, or on a target and a path.
 fn two_texts(heap: Heap, args: &mut Pieces<'_>) -> Result<(Bytes, Bytes), WordFault>
     ensures { Reads (two text_in text_in args.old) result }
 {
@@ -107,6 +109,22 @@ fn lseek_of(args: &mut Pieces<'_>) -> Option<(Fd, i64, Whence)>
     Some((fd_in(fd)?, offset_in(offset)?, whence_in(whence)?))
 }
 
+// A descriptor and permissions.
+fn fchmod_of(args: &mut Pieces<'_>) -> Option<(Fd, Permissions)>
+    ensures { result ≡ two fd_in permissions_in args.old }
+{
+    let (fd, permissions) = args.two()?;
+    Some((fd_in(fd)?, permissions_in(permissions)?))
+}
+
+// A descriptor, a user and a group.
+fn fchown_of(args: &mut Pieces<'_>) -> Option<(Fd, Option<u32>, Option<u32>)>
+    ensures { result ≡ three fd_in id_in id_in args.old }
+{
+    let (fd, user, group) = args.three()?;
+    Some((fd_in(fd)?, id_in(user)?, id_in(group)?))
+}
+
 // The flags of a begin, which may be left out.
 fn begin_of(args: &mut Pieces<'_>) -> Option<BeginFlags>
     ensures { result ≡ begin_of args.old }
@@ -160,6 +178,14 @@ fn fd_arguments(verb: FdVerb, args: &mut Pieces<'_>) -> Option<Op>
             let (fd, other) = fd_and_number(args, u32::MAX)?;
             Call::Dup2(fd, Fd(other))
         }
+        FdVerb::Fchmod => {
+            let (fd, permissions) = fchmod_of(args)?;
+            Call::Fchmod(fd, permissions)
+        }
+        FdVerb::Fchown => {
+            let (fd, user, group) = fchown_of(args)?;
+            Call::Fchown(fd, NewOwner { user, group })
+        }
     }))
 }
 
@@ -173,6 +199,8 @@ fn on_path(verb: PathVerb, path: Bytes) -> Call
         PathVerb::Mkdir => Call::Mkdir(path),
         PathVerb::Rmdir => Call::Rmdir(path),
         PathVerb::List => Call::List(path),
+        PathVerb::Readlink => Call::Readlink(path),
+        PathVerb::Lstat => Call::Lstat(path),
     }
 }
 
@@ -184,7 +212,7 @@ fn path_arguments(heap: Heap, verb: PathVerb, args: &mut Pieces<'_>) -> Result<O
     Ok(Op::Call(on_path(verb, path)))
 }
 
-// The operation of a word on two paths.
+// The operation of a word on two paths, or on a target, which edits can share, and a path.
 fn paths_arguments(heap: Heap, verb: PathsVerb, args: &mut Pieces<'_>) -> Result<Op, WordFault>
     ensures { Reads (paths_arguments verb args.old) result }
 {
@@ -192,6 +220,7 @@ fn paths_arguments(heap: Heap, verb: PathsVerb, args: &mut Pieces<'_>) -> Result
     Ok(Op::Call(match verb {
         PathsVerb::Link => Call::Link(old, new),
         PathsVerb::Rename => Call::Rename(old, new),
+        PathsVerb::Symlink => Call::Symlink(old.shared(), new),
     }))
 }
 
@@ -298,6 +327,49 @@ fn truncate_arguments(heap: Heap, args: &mut Pieces<'_>) -> Result<Op, WordFault
     Ok(Op::Call(Call::Truncate(text_in(heap, path)?, length)))
 }
 
+// The path of a mknod and what it makes.
+fn mknod_arguments(heap: Heap, args: &mut Pieces<'_>) -> Result<Op, WordFault>
+    ensures { Reads (arguments Verb.Mknod args.old) result }
+{
+    let Some((path, special)) = args.two() else {
+        return Err(WordFault::Malformed);
+    };
+    let Some(special) = special_in(special) else {
+        return Err(WordFault::Malformed);
+    };
+    Ok(Op::Call(Call::Mknod(text_in(heap, path)?, special)))
+}
+
+// The path and the permissions of a chmod.
+fn chmod_arguments(heap: Heap, args: &mut Pieces<'_>) -> Result<Op, WordFault>
+    ensures { Reads (arguments Verb.Chmod args.old) result }
+{
+    let Some((path, permissions)) = args.two() else {
+        return Err(WordFault::Malformed);
+    };
+    let Some(permissions) = permissions_in(permissions) else {
+        return Err(WordFault::Malformed);
+    };
+    Ok(Op::Call(Call::Chmod(text_in(heap, path)?, permissions)))
+}
+
+// The path, the user and the group of a chown.
+fn chown_arguments(heap: Heap, args: &mut Pieces<'_>) -> Result<Op, WordFault>
+    ensures { Reads (arguments Verb.Chown args.old) result }
+{
+    let Some((path, user, group)) = args.three() else {
+        return Err(WordFault::Malformed);
+    };
+    let Some(user) = id_in(user) else {
+        return Err(WordFault::Malformed);
+    };
+    let Some(group) = id_in(group) else {
+        return Err(WordFault::Malformed);
+    };
+    let owner = NewOwner { user, group };
+    Ok(Op::Call(Call::Chown(text_in(heap, path)?, owner)))
+}
+
 // The operation of a word with these arguments.
 pub(crate) fn arguments(heap: Heap, verb: Verb, args: &mut Pieces<'_>) -> Result<Op, WordFault>
     ensures { Reads (arguments verb args.old) result }
@@ -309,6 +381,9 @@ pub(crate) fn arguments(heap: Heap, verb: Verb, args: &mut Pieces<'_>) -> Result
         Verb::Fill => fill_arguments(heap, args),
         Verb::Pfill => pfill_arguments(heap, args),
         Verb::Truncate => truncate_arguments(heap, args),
+        Verb::Mknod => mknod_arguments(heap, args),
+        Verb::Chmod => chmod_arguments(heap, args),
+        Verb::Chown => chown_arguments(heap, args),
         Verb::OnFd(verb) => op_spelled(fd_arguments(verb, args)),
         Verb::OnPath(verb) => path_arguments(heap, verb, args),
         Verb::OnPaths(verb) => paths_arguments(heap, verb, args),

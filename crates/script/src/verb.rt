@@ -13,6 +13,9 @@ pub(crate) enum Verb {
     Fill,
     Pfill,
     Truncate,
+    Mknod,
+    Chmod,
+    Chown,
     OnFd(FdVerb),
     OnPath(PathVerb),
     OnPaths(PathsVerb),
@@ -30,6 +33,8 @@ pub(crate) enum FdVerb {
     Lseek,
     Ftruncate,
     Dup2,
+    Fchmod,
+    Fchown,
 }
 
 // The word of an operation on a path.
@@ -40,13 +45,16 @@ pub(crate) enum PathVerb {
     Mkdir,
     Rmdir,
     List,
+    Readlink,
+    Lstat,
 }
 
-// The word of an operation on two paths.
+// The word of an operation on two paths, or on a target and a path.
 #[derive(Clone, Copy)]
 pub(crate) enum PathsVerb {
     Link,
     Rename,
+    Symlink,
 }
 
 // The word of an operation on neither.
@@ -61,7 +69,7 @@ pub(crate) enum BareVerb {
 }
 
 // The words, and what each names.
-static VERBS: [(&str, Verb); 27] = [
+static VERBS: [(&str, Verb); 35] = [
     ("open", Verb::Open),
     ("close", Verb::OnFd(FdVerb::Close)),
     ("fstat", Verb::OnFd(FdVerb::Fstat)),
@@ -76,13 +84,21 @@ static VERBS: [(&str, Verb); 27] = [
     ("ftruncate", Verb::OnFd(FdVerb::Ftruncate)),
     ("truncate", Verb::Truncate),
     ("dup2", Verb::OnFd(FdVerb::Dup2)),
+    ("mknod", Verb::Mknod),
+    ("chmod", Verb::Chmod),
+    ("chown", Verb::Chown),
+    ("fchmod", Verb::OnFd(FdVerb::Fchmod)),
+    ("fchown", Verb::OnFd(FdVerb::Fchown)),
     ("stat", Verb::OnPath(PathVerb::Stat)),
     ("unlink", Verb::OnPath(PathVerb::Unlink)),
     ("mkdir", Verb::OnPath(PathVerb::Mkdir)),
     ("rmdir", Verb::OnPath(PathVerb::Rmdir)),
     ("list", Verb::OnPath(PathVerb::List)),
+    ("readlink", Verb::OnPath(PathVerb::Readlink)),
+    ("lstat", Verb::OnPath(PathVerb::Lstat)),
     ("link", Verb::OnPaths(PathsVerb::Link)),
     ("rename", Verb::OnPaths(PathsVerb::Rename)),
+    ("symlink", Verb::OnPaths(PathsVerb::Symlink)),
     ("pipe", Verb::Bare(BareVerb::Pipe)),
     ("fork", Verb::Bare(BareVerb::Fork)),
     ("exit", Verb::Bare(BareVerb::Exit)),

@@ -3,6 +3,7 @@ ghost use Rattle.std.specs.Prelude.{◌≡◌, ℕ, ◌≤◌, List, [], ◌∷�
 ghost use Rattle.session.specs.Messages.{read_by, with_messages};
 
 use crate::ending::Ending;
+use fuse::Time;
 
 /// Why no message was read.
 #[derive(Clone, Copy, Debug, PartialEq, Eq)]
@@ -13,7 +14,8 @@ pub enum Silence {
     Ended(Ending),
 }
 
-/// What the messages of a session are read from and written to, each of them whole.
+/// What the messages of a session are read from and written to, each of them whole, and where its time
+/// is read.
 pub trait Channel {
     /// The messages that were read, in order, where contracts know them.
     ghost heard: { Self → Option (List (List ℕ)) };
@@ -26,6 +28,11 @@ pub trait Channel {
         ensures bound { IfOk result (λ n. n ≤ length buffer.new) }
         ensures heard { heard self.new
             ≡ with_messages (heard self.old) (read_by result buffer.new) }
+        ensures said { said self.new ≡ said self.old };
+
+    /// The time, by a clock of which nothing is promised: it may stand still, and go back.
+    fn now(&mut self) -> Time
+        ensures heard { heard self.new ≡ heard self.old }
         ensures said { said self.new ≡ said self.old };
 
     /// Writes a message. Linux takes none for a request that was interrupted, so nothing is told of

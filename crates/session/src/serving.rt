@@ -33,8 +33,8 @@ fn refuse<C: Channel>(channel: &mut C, message: &mut Message, answer: Option<(u6
     }
 }
 
-// Serves the request that the bytes are, and writes its reply. What is no request is answered by its
-// fault.
+// Serves the request that the bytes are, at the time of the channel, and writes its reply. What is no
+// request is answered by its fault.
 pub(crate) fn handle<S: Service, C: Channel>(
     heap: Heap,
     server: &mut S,
@@ -49,7 +49,8 @@ pub(crate) fn handle<S: Service, C: Channel>(
     match parse(heap, bytes) {
         Ok(request) => {
             let unique = request.unique;
-            let reply = server.serve(request);
+            let now = channel.now();
+            let reply = server.serve(request, now);
             send(channel, message, unique, &reply);
         }
         Err(fault) => refuse(channel, message, fault.answer()),

@@ -1,22 +1,27 @@
-// A channel over a reader and a writer of std.
+// A channel over a reader, a writer and a clock of std.
 ghost use Rattle.std.specs.Prelude.{None};
 
 use crate::channel::{Channel, Silence};
 use crate::ending::Ending;
+use fuse::Time;
 use std::io;
 use std::io::{ErrorKind, Read, Write};
+use std::rt::Clock;
+use std::time::{SystemTime, UNIX_EPOCH};
 
 // The system's number for a session that has ended.
 const ENDED: i32 = 19;
 
 /// A channel over a reader and a writer, each read and each write of which is a whole message, as those
-/// of `/dev/fuse` are. Contracts do not know its messages.
+/// of `/dev/fuse` are, and over a clock. Contracts do not know its messages.
 #[derive(Drop)]
-pub struct Streams<R, W> {
+pub struct Streams<R, W, T> {
     /// Where messages are read.
     pub input: R,
     /// Where they are written.
     pub output: W,
+    /// Where the time is read.
+    pub clock: T,
 }
 
 // How a session goes on after a read that failed.
@@ -30,7 +35,27 @@ fn silence_of(error: &io::Error) -> Silence {
     }
 }
 
-impl<R: Read, W: Write> Channel for Streams<R, W> {
+// The beginning of 1970, which is told where the clock cannot be read.
+const START: Time = Time {
+    seconds: 0,
+    nanoseconds: 0,
+};
+
+// What a clock reads, from 1970 on.
+fn time_of(clock: &impl Clock) -> Time {
+    let Ok(read) = SystemTime::now(clock) else {
+        return START;
+    };
+    match read.duration_since(UNIX_EPOCH) {
+        Ok(since) => Time {
+            seconds: since.as_secs(),
+            nanoseconds: since.subsec_nanos(),
+        },
+        Err(_) => START,
+    }
+}
+
+impl<R: Read, W: Write, T: Clock> Channel for Streams<R, W, T> {
     ghost heard = { λ _. None };
 
     ghost said = { λ _. None };
@@ -41,6 +66,10 @@ impl<R: Read, W: Write> Channel for Streams<R, W> {
             Ok(count) => Ok(count),
             Err(error) => Err(silence_of(&error)),
         }
+    }
+
+    fn now(&mut self) -> Time {
+        time_of(&self.clock)
     }
 
     fn send(&mut self, message: &[u8]) {

@@ -17,3 +17,4 @@ pub mod Readiness
 pub mod PlaceAfterChanges
 pub mod UntidiedState
 pub mod InodesAfterChanges
+pub mod RightsSteps

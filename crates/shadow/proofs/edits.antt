@@ -11,4 +11,5 @@ pub mod SlotChanges
 pub mod OpenedInodes
 pub mod NewPipes
 pub mod Offsets
+pub mod SetRights
 pub mod UnusedNumbers

@@ -8,6 +8,7 @@ pub mod FileEdits
 pub mod PipeEdits
 pub mod SlotNotes
 pub mod OffsetEdits
+pub mod RightsEdits
 pub mod EditCases
 pub mod InodeForms
 pub mod DescriptionForms

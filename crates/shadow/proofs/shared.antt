@@ -1,6 +1,7 @@
 pub mod Outcomes
 pub mod PipePairLemmas
 pub mod EditPairs
+pub mod FixedKinds
 pub mod PlaceLemmas
 pub mod ProcessLemmas
 pub mod CommittedLemmas

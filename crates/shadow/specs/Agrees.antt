@@ -12,13 +12,14 @@ use Rattle.freeing_laws.specs.Left.{named_along, unnamed_along}
 use Rattle.freeing_laws.specs.Pipes.{ArePair}
 use Rattle.freeing_laws.specs.Sweep.{AllFit}
 use Rattle.shadow.specs.declared.change.Made.{Made}
-use Rattle.shadow.specs.declared.change.Made.TheVariants.{Directory, File, Pipe}
+use Rattle.shadow.specs.declared.change.Made.TheVariants.{Directory, File, Pipe, Fixed}
 use Rattle.shadow.specs.declared.opening.Opening.{Opening}
 use Rattle.shadow.specs.declared.opening.Opening.TheVariants.{Kept, New, Moved}
 use Rattle.shadow.specs.Claims.{Claim, claimed, claim_in}
-use Rattle.shadow.specs.Patches.{AllReach, Form, no_change, of_names, of_bytes, of_pipe, Patches, new_ends}
+use Rattle.shadow.specs.Patches.{AllReach, Form, no_change, of_names, of_bytes, of_pipe, of_fixed}
+use Rattle.shadow.specs.Patches.{Patches, new_ends}
 use Rattle.shadow.specs.Patches.{added_by, form_of, kept_at, net_at, opening_at, patched, reopened}
-use Rattle.shadow.specs.Patches.{numbers_in, reslotted, slots_in}
+use Rattle.shadow.specs.Patches.{numbers_in, reslotted, rights_over, slots_in}
 use Rattle.shadow.specs.Steps.{blocks_by}
 
 -- The kind of what stands below changes: an object that is new was made so, and any other is of
@@ -27,10 +28,12 @@ abbrev pub IsOver : Option Kind → Option Made → Form → Type 0
 IsOver kind (Some Directory) form = form ≡ of_names true
 IsOver kind (Some File) form = form ≡ of_bytes true
 IsOver kind (Some Pipe) form = form ≡ of_pipe true
+IsOver kind (Some Fixed) form = form ≡ of_fixed
 IsOver kind None no_change = ⊤
 IsOver kind None (of_names fresh) = (fresh ≡ false) × (kind ≡ Some A_directory)
 IsOver kind None (of_bytes fresh) = (fresh ≡ false) × (kind ≡ Some A_file)
 IsOver kind None (of_pipe fresh) = (fresh ≡ false) × (kind ≡ Some A_pipe)
+IsOver kind None of_fixed = ⊥
 
 abbrev pub IsOverDescription : Opening → Bool → Type 0
 IsOverDescription (Moved place) there = there ≡ true
@@ -49,6 +52,8 @@ pub record Agrees (ds : List Effect) (p : Patches) : Type 0 where
   pub largest : (k : Kernel) → (all_done ds k).largest ≡ k.largest
   pub inodes : (k : Kernel) (n : ℕ) → AllFit ds k
       → get (all_done ds k).inodes n ≡ patched (net_at p.inodes n).contents (get k.inodes n)
+  pub rights : (k : Kernel) (n : ℕ)
+      → get (all_done ds k).rights n ≡ rights_over (kept_at p.rights n) (get k.rights n)
   pub descriptions : (k : Kernel) (d : ℕ)
       → get (all_done ds k).descriptions d ≡ reopened (opening_at p.openings d) (get k.descriptions d)
   pub processes : (k : Kernel) (pid : ℕ)

@@ -16,7 +16,7 @@ use Rattle.shadow.specs.Patches.{Net, Patches, is_new, net_at, opening_at}
 use Rattle.shadow.specs.Steps.{directories_in, files_in, opened_in, parents_in}
 use Rattle.shadow.specs.declared.change.InodeChange.{InodeChange}
 use Rattle.shadow.specs.declared.change.Made.{Made}
-use Rattle.shadow.specs.declared.change.Made.TheVariants.{Directory, File, Pipe}
+use Rattle.shadow.specs.declared.change.Made.TheVariants.{Directory, File, Pipe, Fixed}
 use Rattle.shadow.specs.declared.opening.Opening.{Opening}
 
 -- room for one more name in a directory, a number for a directory to come, or one for another object
@@ -68,12 +68,14 @@ abbrev pub is_directory_made : Option Made → Bool
 is_directory_made (Some Directory) = true
 is_directory_made (Some File) = false
 is_directory_made (Some Pipe) = false
+is_directory_made (Some Fixed) = false
 is_directory_made None = false
 
--- a file or a pipe
+-- anything else
 abbrev pub is_file_made : Option Made → Bool
 is_file_made (Some File) = true
 is_file_made (Some Pipe) = true
+is_file_made (Some Fixed) = true
 is_file_made (Some Directory) = false
 is_file_made None = false
 

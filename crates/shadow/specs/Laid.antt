@@ -6,16 +6,16 @@ use Rattle.std.specs.Prelude.{if◌then◌else◌}
 use Rattle.std.specs.Ordering.{nat_cmp}
 use Rattle.std.specs.List.{AllByRecursion, flat_map}
 use Rattle.model.specs.FiniteMap.{FinMap, entries, get}
-use Rattle.model.specs.State.{A_directory as Directory_kind, Description, Kernel, Name, Process, kind_of}
-use Rattle.model.specs.State.{names_of}
+use Rattle.model.specs.State.{Description, Kernel, Kind, Name, Process, Rights, kind_of, names_of}
 use Rattle.model.specs.Changes.{holders, openings, or_new}
 use Rattle.dirlist.specs.Listing.{Listing}
 use Rattle.dirlist.specs.Patches.{Notes}
 use Rattle.fdtable.specs.Patches.{Given}
 use Rattle.file_shadow.specs.View.{FileChanges, view_over}
 use Rattle.pipe_shadow.specs.View.{PipeChanges, view_over as pipe_over}
+use Rattle.call_laws.specs.WellFormed.{CanBeOpened}
 use Rattle.freeing_laws.specs.Counts.{listed, times}
-use Rattle.freeing_laws.specs.Sweep.{AreParented}
+use Rattle.freeing_laws.specs.Sweep.{AreParented, AreSet}
 use Rattle.objects.specs.Pieces.{FileContent}
 use Rattle.store.specs.Numbers.{Numbers, coming, object_at, present}
 use Rattle.store.specs.Places.{file_in, installed, may_be_named, openings_of, with_listing}
@@ -24,18 +24,21 @@ use Rattle.store.specs.Shown.{chosen, descriptions, inodes}
 use Rattle.store.specs.declared.Place.{Place}
 use Rattle.store.specs.declared.Object.TheVariants.{Directory as A_directory, File as A_file, Pipe as A_pipe}
 use Rattle.store.specs.declared.Object.TheVariants.{Description as A_description, Nothing}
+use Rattle.store.specs.declared.Object.TheVariants.{Fixed as A_fixed}
 use Rattle.store.specs.declared.OpenFile.{OpenFile}
 use Rattle.store.specs.declared.Opened.{Opened}
 use Rattle.store.specs.declared.OpenPipe.{OpenPipe}
 use Rattle.shadow.specs.declared.change.InodeChange.{InodeChange}
 use Rattle.shadow.specs.declared.change.Contents.{Contents}
 use Rattle.shadow.specs.declared.change.Contents.TheVariants.{Same, Names, Bytes, Pipe as Piped}
+use Rattle.shadow.specs.declared.change.Contents.TheVariants.{Fixed as As_fixed}
 use Rattle.shadow.specs.declared.opening.Opening.{Opening}
 use Rattle.shadow.specs.declared.opening.Opening.TheVariants.{New}
 use Rattle.shadow.specs.Claims.{Claim, reserved}
 use Rattle.shadow.specs.Committed.{Reserve}
 use Rattle.shadow.specs.Openings.{slot_noted}
-use Rattle.shadow.specs.Patches.{is_new, kept_at, opening_at, reopened, reslotted}
+use Rattle.shadow.specs.Patches.{is_new, kept_at, net_at, opening_at, patched, reopened, reslotted}
+use Rattle.shadow.specs.Patches.{rights_over}
 use Rattle.shadow.specs.Stored.{AreCounted, IsEndHere, IsStaged, Processes, committed_of, no_processes, numbered, reserve_in, state_of}
 
 -- what is kept for transactions
@@ -80,6 +83,7 @@ IsCarriedBy c (Bytes fresh bytes) before after = IsWrittenOver bytes before afte
 IsCarriedBy c (Piped (Some new) changes) before after =
     after ≡ Some (present (A_pipe (record new { bytes = pipe_over changes new.bytes })))
 IsCarriedBy c (Piped None changes) before after = IsPassedOver changes before after
+IsCarriedBy c (As_fixed fixed) before after = after ≡ Some (present (A_fixed fixed))
 
 abbrev pub IsCarried : Option InodeChange → Option Place → Option Place → Type 0
 IsCarried (Some c) before after = IsCarriedBy c c.contents before after
@@ -116,6 +120,7 @@ IsReadyContents s n c Same = c.made ≡ None
 IsReadyContents s n c (Names fresh notes) = IsReadyDirectory s n c notes
 IsReadyContents s n c (Bytes fresh bytes) = IsReadyFile (is_some c.made) (get s.places n)
 IsReadyContents s n c (Piped fresh changes) = IsReadyPipe fresh changes (get s.places n)
+IsReadyContents s n c (As_fixed fixed) = get s.places n ≡ Some (coming Nothing)
 
 abbrev pub IsReady : Numbers → ℕ → InodeChange → Type 0
 IsReady s n c = IsReadyContents s n c c.contents
@@ -123,16 +128,31 @@ IsReady s n c = IsReadyContents s n c c.contents
 abbrev pub AreReady : List (ℕ × InodeChange) → Numbers → Type 0
 AreReady changes s = (n : ℕ) (c : InodeChange) → kept_at changes n ≡ Some c → IsReady s n c
 
+-- rights are set of inodes that are there, and of inodes that are there when these changes are made
+abbrev pub CanBeSet : List (ℕ × Rights) → Numbers → Type 0
+CanBeSet rights s = (n : ℕ) → kept_at rights n ≢ None → get (inodes s) n ≢ None
+
+abbrev pub CanBeSetThen : List (ℕ × InodeChange) → List (ℕ × Rights) → Numbers → Type 0
+CanBeSetThen changes rights s = (n : ℕ) → kept_at rights n ≢ None
+    → patched (net_at changes n).contents (get (inodes s) n) ≢ None
+
+-- These rights are set, and where they are none, the others stay.
+pub record AreRevised (rights : List (ℕ × Rights)) (old new : Numbers) : Type 0 where
+  pub root : new.root ≡ old.root
+  pub places : new.places ≡ old.places
+  pub each : (n : ℕ) → get new.rights n ≡ rights_over (kept_at rights n) (get old.rights n)
+
 -- what is kept of a number whose object is no longer to come
 abbrev pub settled : Option Reserve → Option Reserve
 settled (Some r) = Some (record r { coming = false })
 settled None = None
 
--- One store after another in which the inodes, the root, and what is kept for transactions are as
--- before; staged stays so.
+-- One store after another in which the inodes with their rights, the root, and what is kept for
+-- transactions are as before; staged stays so.
 pub record SameStore (old new : Numbers) : Type 0 where
   pub root : new.root ≡ old.root
   pub inodes : inodes new ≡ inodes old
+  pub rights : new.rights ≡ old.rights
   pub staged : ((n : ℕ) → IsStaged (get old.places n)) → (n : ℕ) → IsStaged (get new.places n)
 
 -- The changes of descriptions are made.
@@ -211,14 +231,16 @@ pub record AreReslotted (slots former : List (ℕ × Given)) (ps qs : Processes)
       → 0 < times d (given_in former)
 
 -- The store holds, on the way: its root is number 0, names stand in directories that have one and
--- give no description, no directory is open, what is to come is empty, and the counts are right.
+-- give no description, rights are set of inodes that are there, nothing is open that cannot be
+-- opened, what is to come is empty, and the counts are right.
 pub record Holds (ps : Processes) (s : Numbers) : Type 0 where
   pub root : s.root ≡ 0
   pub parented : AreParented (state_of ps s)
+  pub set : AreSet (state_of ps s)
   pub unnamed : (d n : ℕ) (x : Name) → get (descriptions s) d ≢ None
       → get (names_of (state_of ps s) n) x ≢ Some d
-  pub unopened : (n : ℕ) → kind_of (state_of ps s) n ≡ Some Directory_kind
-      → openings (state_of ps s) n ≡ 0
+  pub unopened : (n : ℕ) (what : Kind) → kind_of (state_of ps s) n ≡ Some what
+      → (CanBeOpened (Some what) → ⊥) → openings (state_of ps s) n ≡ 0
   pub staged : (n : ℕ) → IsStaged (get s.places n)
   pub counted : AreCounted ps s
 

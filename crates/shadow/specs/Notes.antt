@@ -2,19 +2,20 @@
 use Rattle.std.specs.Prelude.{◌≡◌, ◌≢◌, ◌↔◌, ℕ, ◌+◌, ◌≤◌, List, [], ◌++◌, Contains, drop, length, true}
 use Rattle.std.specs.Prelude.{Option, Some, None}
 use Rattle.dirlist.specs.Patches.{noted_back}
-use Rattle.model.specs.State.{Name, Inode, Pipe, Process, pipe_of_inode}
+use Rattle.model.specs.State.{Name, Inode, Pipe, Process, Rights, pipe_of_inode}
 use Rattle.model.specs.Plan.{blocks}
 use Rattle.shadow.specs.declared.change.InodeChange.{InodeChange}
 use Rattle.shadow.specs.declared.change.Contents.{Contents}
 use Rattle.shadow.specs.declared.change.Contents.TheVariants.{Same, Names, Bytes, Pipe as Piped}
+use Rattle.shadow.specs.declared.change.Contents.TheVariants.{Fixed as As_fixed}
 use Rattle.shadow.specs.declared.change.Former.{Former}
 use Rattle.shadow.specs.declared.change.Former.TheVariants.{Noted, Other}
-use Rattle.shadow.specs.declared.change.Made.{Made}
 use Rattle.shadow.specs.declared.change.Made.TheVariants.{Pipe as A_pipe}
+use Rattle.shadow.specs.declared.new_object.NewObject.{NewObject}
 use Rattle.shadow.specs.Patches.{Net, Patches, added_by, form_of, kept_at, net_at, opening_at}
 use Rattle.shadow.specs.Patches.{AllReach, new_ends, numbers_in, of_pipe, patched, reslotted}
 use Rattle.shadow.specs.Steps.{bytes_cut, bytes_written, filed, listed, name_noted, new_form}
-use Rattle.shadow.specs.Steps.{IsPassable, new_inode, piped}
+use Rattle.shadow.specs.Steps.{IsPassable, made_of, new_inode, piped}
 
 -- how much room in its directory a name takes that comes
 abbrev pub room_for : Option ℕ → ℕ
@@ -51,11 +52,11 @@ abbrev pub IsCut : ℕ → Net → Net → Type 0
 IsCut after = IsFiled (bytes_cut after) []
 
 -- the transaction made the object, with a name
-pub record IsMade (what : Made) (old new : Net) : Type 0 where
+pub record IsMade (what : NewObject) (old new : Net) : Type 0 where
   pub contents : (o : Option Inode) → patched new.contents o ≡ Some (new_inode what)
   pub form : form_of new.contents ≡ new_form what
   pub added : added_by new.contents ≡ 0
-  pub made : new.made ≡ Some what
+  pub made : new.made ≡ Some (made_of what)
   pub named : new.named ≡ old.named + 1
   pub reach : (o : Option Inode) → AllReach new.contents o
   pub ends : new_ends new.contents ≡ None
@@ -127,6 +128,7 @@ put_back (Noted given) x (Names fresh notes) = Names fresh (noted_back x given n
 put_back (Noted given) x Same = Same
 put_back (Noted given) x (Bytes fresh bytes) = Bytes fresh bytes
 put_back (Noted given) x (Piped fresh changes) = Piped fresh changes
+put_back (Noted given) x (As_fixed fixed) = As_fixed fixed
 
 -- The name of the directory is gone, and the note can be taken back.
 pub record IsGone (x : Name) (former : Former) (old new : Net) : Type 0 where
@@ -141,9 +143,15 @@ pub record SameInodes (old new : List (ℕ × InodeChange)) : Type 0 where
   pub nets : (n : ℕ) → net_at new n ≡ net_at old n
   pub places : (n : ℕ) → kept_at old n ≢ None → kept_at new n ≢ None
 
+-- These rights are set of one number, and those of all others are as before.
+pub record AtRights (n : ℕ) (rights : Rights) (old new : List (ℕ × Rights)) : Type 0 where
+  pub here : kept_at new n ≡ Some rights
+  pub others : (m : ℕ) → m ≢ n → kept_at new m ≡ kept_at old m
+
 -- Patches after which all shows as before.
 pub record SamePatches (old new : Patches) : Type 0 where
   pub inodes : SameInodes old.inodes new.inodes
+  pub rights : (n : ℕ) → kept_at new.rights n ≡ kept_at old.rights n
   pub openings : (d : ℕ) → opening_at new.openings d ≡ opening_at old.openings d
   pub processes : (pid : ℕ) (o : Option Process)
       → reslotted (kept_at new.slots pid) o ≡ reslotted (kept_at old.slots pid) o

@@ -4,7 +4,9 @@ use Rattle.std.specs.Prelude.{if◌then◌else◌, is_some, count_by, ⊤}
 use Rattle.std.specs.Ordering.{is_eq, nat_cmp}
 use Rattle.std.specs.Map.{lookup}
 use Rattle.model.specs.FiniteMap.{FinMap, entries, empty}
-use Rattle.model.specs.State.{name_cmp, Inode, File, Directory, Pipe, Description, Process, mapped}
+use Rattle.model.specs.State.{name_cmp, Inode, File, Directory, Pipe, Fixed, Description, Process}
+use Rattle.model.specs.State.{Rights}
+use Rattle.model.specs.State.{mapped}
 use Rattle.model.specs.State.{names_of_inode, file_of_inode, pipe_of_inode}
 use Rattle.model.specs.Changes.{at_offset, or_new}
 use Rattle.fdtable.specs.Patches.{Given, laid_at}
@@ -15,6 +17,7 @@ use Rattle.store.specs.declared.OpenPipe.{OpenPipe}
 use Rattle.shadow.specs.declared.change.InodeChange.{InodeChange}
 use Rattle.shadow.specs.declared.change.Contents.{Contents}
 use Rattle.shadow.specs.declared.change.Contents.TheVariants.{Same, Names, Bytes, Pipe as Piped}
+use Rattle.shadow.specs.declared.change.Contents.TheVariants.{Fixed as As_fixed}
 use Rattle.shadow.specs.declared.change.Made.{Made}
 use Rattle.shadow.specs.declared.opening.Opening.{Opening}
 use Rattle.shadow.specs.declared.opening.Opening.TheVariants.{Kept, New, Moved}
@@ -37,6 +40,7 @@ patched Same o = o
 patched (Names fresh notes) o = Some (Directory (laid (entries notes) (names_before fresh o)))
 patched (Bytes fresh bytes) o = Some (File (view_over bytes (bytes_before fresh o)))
 patched (Piped fresh changes) o = Some (Pipe (pipe_over changes (pipe_before fresh o)))
+patched (As_fixed fixed) o = Some (Fixed fixed)
 
 -- all bytes that changes take from a pipe were there
 abbrev pub AllReach : Contents → Option Inode → Type 0
@@ -44,6 +48,7 @@ AllReach (Piped fresh changes) o = Reaches changes (pipe_before fresh o)
 AllReach Same o = ⊤
 AllReach (Names fresh notes) o = ⊤
 AllReach (Bytes fresh bytes) o = ⊤
+AllReach (As_fixed fixed) o = ⊤
 
 -- the numbers of the two descriptions of a pipe that is new
 abbrev pub ends_of : Option OpenPipe → Option (ℕ × ℕ)
@@ -55,6 +60,12 @@ new_ends (Piped fresh changes) = ends_of fresh
 new_ends Same = None
 new_ends (Names fresh notes) = None
 new_ends (Bytes fresh bytes) = None
+new_ends (As_fixed fixed) = None
+
+-- the same of the rights that were set of an inode
+abbrev pub rights_over : Option Rights → Option Rights → Option Rights
+rights_over (Some rights) o = Some rights
+rights_over None o = o
 
 -- the same of a description
 abbrev pub reopened : Opening → Option Description → Option Description
@@ -81,18 +92,21 @@ slots_in None = []
 abbrev pub reslotted : Option Given → Option Process → Option Process
 reslotted given o = reslotted_by (slots_in given) o
 
--- Of what kind changes of an inode are: none, or of a directory, a file or a pipe, which may be new.
+-- Of what kind changes of an inode are: none, or of a directory, a file or a pipe, which may be new,
+-- or a new object that never changes.
 pub data Form : Type 0 where
   no_change : Form
   of_names : Bool → Form
   of_bytes : Bool → Form
   of_pipe : Bool → Form
+  of_fixed : Form
 
 abbrev pub form_of : Contents → Form
 form_of Same = no_change
 form_of (Names fresh notes) = of_names fresh
 form_of (Bytes fresh bytes) = of_bytes fresh
 form_of (Piped fresh changes) = of_pipe (is_some fresh)
+form_of (As_fixed fixed) = of_fixed
 
 -- how many of a directory's changed names give a number
 abbrev pub added_by : Contents → ℕ
@@ -100,6 +114,7 @@ added_by (Names fresh notes) = count_by (λ g. is_some g.1) (entries notes)
 added_by Same = 0
 added_by (Bytes fresh bytes) = 0
 added_by (Piped fresh changes) = 0
+added_by (As_fixed fixed) = 0
 
 -- the blocks of a file into which bytes were written
 abbrev pub numbers_in : Contents → List ℕ
@@ -107,6 +122,7 @@ numbers_in (Bytes fresh bytes) = bytes.changed.numbers
 numbers_in Same = []
 numbers_in (Names fresh notes) = []
 numbers_in (Piped fresh changes) = []
+numbers_in (As_fixed fixed) = []
 
 -- What counts of the changes of an inode: what the transaction made, for how many names room is
 -- promised, how many names it gave the inode and took from it, and the contents.
@@ -157,10 +173,11 @@ or_kept None = Kept
 abbrev pub opening_at : List (ℕ × Opening) → ℕ → Opening
 opening_at openings d = or_kept (kept_at openings d)
 
--- All that a transaction has changed, by the numbers of inodes, of descriptions and of processes,
--- and what has lost a name.
+-- All that a transaction has changed, by the numbers of inodes, with the rights that it set of them,
+-- of descriptions and of processes, and what has lost a name.
 pub record Patches : Type 0 where
   pub inodes : List (ℕ × InodeChange)
+  pub rights : List (ℕ × Rights)
   pub openings : List (ℕ × Opening)
   pub slots : List (ℕ × Given)
   pub unnamed_inodes : List ℕ

@@ -5,12 +5,13 @@ use Rattle.std.specs.Prelude.{List, [], ◌∷◌, ◌++◌, map, length, Option
 use Rattle.std.specs.List.{flat_map}
 use Rattle.model.specs.FiniteMap.{get, empty}
 use Rattle.model.specs.Moments.{is_in}
-use Rattle.model.specs.State.{Name, Kernel, Inode, File, Directory, Pipe, Description, Process}
+use Rattle.model.specs.State.{Name, Kernel, Inode, File, Directory, Pipe, Fixed, Description}
+use Rattle.model.specs.State.{Process}
 use Rattle.model.specs.State.{A_pipe as Pipe_kind, kind, mapped, names_of_inode, file_of_inode}
-use Rattle.model.specs.State.{pipe_of_inode}
+use Rattle.model.specs.State.{Rights, pipe_of_inode}
 use Rattle.model.specs.Changes.{Edit, Which, There, Made, number, news, Make_directory, Make_file}
-use Rattle.model.specs.Changes.{Name_file, Unname_file, Unname_directory, Move, Put_bytes, Cut}
-use Rattle.model.specs.Changes.{Append, Make_pipe, Set_offset, Take, to_read, to_write}
+use Rattle.model.specs.Changes.{Make_fixed, Name_file, Unname_file, Unname_directory, Move, Put_bytes, Cut}
+use Rattle.model.specs.Changes.{Append, Make_pipe, Set_offset, Set_rights, Take, to_read, to_write}
 use Rattle.model.specs.Changes.{Open_inode, Share_slot, Clear_slot, applied, sized, written, at_start, at_offset}
 use Rattle.model.specs.Changes.{with_slot, without_slot, or_new}
 use Rattle.model.specs.Effects.{Effect}
@@ -21,11 +22,16 @@ use Rattle.freeing_laws.specs.Counts.{named, times, unnamed}
 use Rattle.freeing_laws.specs.Sweep.{loses}
 use Rattle.store.specs.Laid.{with_note}
 use Rattle.shadow.specs.declared.change.Made.{Made as What}
-use Rattle.shadow.specs.declared.change.Made.TheVariants.{Directory as A_directory, File as A_file, Pipe as A_pipe}
+use Rattle.shadow.specs.declared.change.Made.TheVariants.{Directory as A_directory, File as A_file}
+use Rattle.shadow.specs.declared.change.Made.TheVariants.{Pipe as A_pipe, Fixed as A_fixed}
+use Rattle.shadow.specs.declared.new_object.NewObject.{NewObject}
+use Rattle.shadow.specs.declared.new_object.NewObject.TheVariants.{Directory as New_directory}
+use Rattle.shadow.specs.declared.new_object.NewObject.TheVariants.{File as New_file, Fixed as New_fixed}
 use Rattle.shadow.specs.declared.change.Contents.{Contents}
-use Rattle.shadow.specs.Patches.{AllReach, Form, no_change, of_names, of_bytes, of_pipe, Patches, new_ends}
+use Rattle.shadow.specs.Patches.{AllReach, Form, no_change, of_names, of_bytes, of_pipe, of_fixed}
+use Rattle.shadow.specs.Patches.{Patches, new_ends}
 use Rattle.shadow.specs.Patches.{added_by, form_of, kept_at, net_at, opening_at, patched, reopened}
-use Rattle.shadow.specs.Patches.{is_new, numbers_in, reslotted}
+use Rattle.shadow.specs.Patches.{is_new, numbers_in, reslotted, rights_over}
 
 pub record Step : Type 0 where
   pub chosen : List ℕ
@@ -53,12 +59,13 @@ StepsFit (s ∷ ss) k = Fits s.chosen k s.edit × StepsFit ss (one_done s k)
 abbrev pub new_in : List ℕ → ℕ → ℕ
 new_in chosen i = number chosen (Made i)
 
--- What a call of a transaction may change: first a name, or bytes of a file or of a pipe, or a new
--- pipe, and then a description or a slot. Writes and cuts end where a file can end at all, and
--- descriptors are below the limit.
+-- What a call of a transaction may change: first a name, or bytes of a file or of a pipe, or the
+-- rights of an inode, or a new pipe, and then a description or a slot. Writes and cuts end where a
+-- file can end at all, and descriptors are below the limit.
 abbrev pub IsFirst : Edit → Type 0
 IsFirst (Make_directory d x i) = i ≡ 0
 IsFirst (Make_file d x i) = i ≡ 0
+IsFirst (Make_fixed d x fixed i) = i ≡ 0
 IsFirst (Name_file d x n) = ⊤
 IsFirst (Unname_file d x n) = ⊤
 IsFirst (Unname_directory d x n) = ⊤
@@ -67,6 +74,7 @@ IsFirst (Put_bytes n place bytes before) = place + length bytes ≤ largest_file
 IsFirst (Cut n before after) = after ≤ largest_file
 IsFirst (Take p count) = ⊤
 IsFirst (Append p bytes) = ⊤
+IsFirst (Set_rights n rights) = ⊤
 IsFirst (Make_pipe i pid f g) = (i ≡ 0) × (f < descriptor_limit) × (g < descriptor_limit)
 IsFirst _ = ⊥
 
@@ -82,6 +90,7 @@ abbrev pub IsNaming : Edit → Type 0
 IsNaming (Cut n before after) = ⊥
 IsNaming (Take p count) = ⊥
 IsNaming (Append p bytes) = ⊥
+IsNaming (Set_rights n rights) = ⊥
 IsNaming e = TakesNoMemory e
 
 abbrev pub IsBelow : ℕ → Which → Type 0
@@ -121,13 +130,19 @@ bytes_taken count o = Some (Pipe (drop count (pipe_of_inode o)))
 abbrev pub bytes_appended : List ℕ → Option Inode → Option Inode
 bytes_appended bytes o = Some (Pipe (pipe_of_inode o ++ bytes))
 
-abbrev pub new_inode : What → Inode
-new_inode A_directory = Directory empty
-new_inode A_file = File []
-new_inode A_pipe = Pipe []
+-- a new object that comes with its name: its inode, and what the transaction made with it
+abbrev pub new_inode : NewObject → Inode
+new_inode New_directory = Directory empty
+new_inode New_file = File []
+new_inode (New_fixed fixed) = Fixed fixed
 
--- a new object with its name
-abbrev pub made_at : What → ℕ → Name → ℕ → ℕ → Option Inode → Option Inode
+abbrev pub made_of : NewObject → What
+made_of New_directory = A_directory
+made_of New_file = A_file
+made_of (New_fixed fixed) = A_fixed
+
+-- what stands at a number where such an object comes
+abbrev pub made_at : NewObject → ℕ → Name → ℕ → ℕ → Option Inode → Option Inode
 made_at what d x m n o =
     if n == d then name_noted x (Some m) (if n == m then Some (new_inode what) else o)
     else if n == m then Some (new_inode what) else o
@@ -138,8 +153,10 @@ named_at d x given n o = if n == d then name_noted x given o else o
 
 -- what stands at a number after an edit, by what stood there
 abbrev pub inode_after : List ℕ → Edit → ℕ → Option Inode → Option Inode
-inode_after chosen (Make_directory d x i) n o = made_at A_directory d x (new_in chosen i) n o
-inode_after chosen (Make_file d x i) n o = made_at A_file d x (new_in chosen i) n o
+inode_after chosen (Make_directory d x i) n o = made_at New_directory d x (new_in chosen i) n o
+inode_after chosen (Make_file d x i) n o = made_at New_file d x (new_in chosen i) n o
+inode_after chosen (Make_fixed d x fixed i) n o =
+    made_at (New_fixed fixed) d x (new_in chosen i) n o
 inode_after chosen (Name_file d x m) n o = named_at d x (Some m) n o
 inode_after chosen (Unname_file d x m) n o = named_at d x None n o
 inode_after chosen (Unname_directory d x m) n o = named_at d x None n o
@@ -152,6 +169,11 @@ inode_after chosen (Take p count) n o = if n == p then bytes_taken count o else 
 inode_after chosen (Append p bytes) n o = if n == p then bytes_appended bytes o else o
 inode_after chosen (Make_pipe i pid f g) n o = if n == new_in chosen i then Some (Pipe []) else o
 inode_after chosen _ n o = o
+
+-- the rights that are set of a number after an edit
+abbrev pub rights_after : Edit → ℕ → Option Rights → Option Rights
+rights_after (Set_rights m rights) n o = if n == m then Some rights else o
+rights_after _ n o = o
 
 abbrev pub description_after : List ℕ → Edit → ℕ → Option Description → Option Description
 description_after chosen (Open_inode i inode mode pid f) d o =
@@ -182,6 +204,7 @@ pub record Applies (chosen : List ℕ) (e : Edit) (k after : Kernel) : Type 0 wh
   pub made : after.made ≡ k.made
   pub largest : after.largest ≡ k.largest
   pub inodes : (n : ℕ) → get after.inodes n ≡ inode_after chosen e n (get k.inodes n)
+  pub rights : (n : ℕ) → get after.rights n ≡ rights_after e n (get k.rights n)
   pub descriptions : (d : ℕ)
       → get after.descriptions d ≡ description_after chosen e d (get k.descriptions d)
   pub processes : (pid : ℕ)
@@ -194,6 +217,7 @@ directories_in chosen _ = []
 
 abbrev pub files_in : List ℕ → Edit → List ℕ
 files_in chosen (Make_file d x i) = new_in chosen i ∷ []
+files_in chosen (Make_fixed d x fixed i) = new_in chosen i ∷ []
 files_in chosen (Make_pipe i pid f g) = new_in chosen i ∷ []
 files_in chosen _ = []
 
@@ -206,6 +230,7 @@ opened_in chosen _ = []
 abbrev pub parents_in : Edit → List ℕ
 parents_in (Make_directory d x i) = d ∷ []
 parents_in (Make_file d x i) = d ∷ []
+parents_in (Make_fixed d x fixed i) = d ∷ []
 parents_in (Name_file d x n) = d ∷ []
 parents_in (Move d x e y n replaced) = e ∷ []
 parents_in _ = []
@@ -216,25 +241,28 @@ listed no_change = of_names false
 listed (of_names fresh) = of_names fresh
 listed (of_bytes fresh) = of_names true
 listed (of_pipe fresh) = of_names true
+listed of_fixed = of_names true
 
 abbrev pub filed : Form → Form
 filed no_change = of_bytes false
 filed (of_bytes fresh) = of_bytes fresh
 filed (of_names fresh) = of_bytes true
 filed (of_pipe fresh) = of_bytes true
+filed of_fixed = of_bytes true
 
 abbrev pub piped : Form → Form
 piped no_change = of_pipe false
 piped (of_pipe fresh) = of_pipe fresh
 piped (of_names fresh) = of_names fresh
 piped (of_bytes fresh) = of_bytes fresh
+piped of_fixed = of_fixed
 
-abbrev pub new_form : What → Form
-new_form A_directory = of_names true
-new_form A_file = of_bytes true
-new_form A_pipe = of_pipe true
+abbrev pub new_form : NewObject → Form
+new_form New_directory = of_names true
+new_form New_file = of_bytes true
+new_form (New_fixed fixed) = of_fixed
 
-abbrev pub made_form : What → ℕ → ℕ → ℕ → Form → Form
+abbrev pub made_form : NewObject → ℕ → ℕ → ℕ → Form → Form
 made_form what d m n form =
     if n == d then listed (if n == m then new_form what else form)
     else if n == m then new_form what else form
@@ -243,8 +271,11 @@ abbrev pub listed_at : ℕ → ℕ → Form → Form
 listed_at d n form = if n == d then listed form else form
 
 abbrev pub form_after : List ℕ → Edit → ℕ → Form → Form
-form_after chosen (Make_directory d x i) n form = made_form A_directory d (new_in chosen i) n form
-form_after chosen (Make_file d x i) n form = made_form A_file d (new_in chosen i) n form
+form_after chosen (Make_directory d x i) n form =
+    made_form New_directory d (new_in chosen i) n form
+form_after chosen (Make_file d x i) n form = made_form New_file d (new_in chosen i) n form
+form_after chosen (Make_fixed d x fixed i) n form =
+    made_form (New_fixed fixed) d (new_in chosen i) n form
 form_after chosen (Name_file d x m) n form = listed_at d n form
 form_after chosen (Unname_file d x m) n form = listed_at d n form
 form_after chosen (Unname_directory d x m) n form = listed_at d n form
@@ -262,6 +293,8 @@ abbrev pub made_after : List ℕ → Edit → ℕ → Option What → Option Wha
 made_after chosen (Make_directory d x i) n made =
     if n == new_in chosen i then Some A_directory else made
 made_after chosen (Make_file d x i) n made = if n == new_in chosen i then Some A_file else made
+made_after chosen (Make_fixed d x fixed i) n made =
+    if n == new_in chosen i then Some A_fixed else made
 made_after chosen (Make_pipe i pid f g) n made =
     if n == new_in chosen i then Some A_pipe else made
 made_after chosen _ n made = made
@@ -280,6 +313,8 @@ abbrev pub numbers_kept : List ℕ → Edit → ℕ → List ℕ → List ℕ
 numbers_kept chosen (Make_directory d x i) n bs =
     if (n == d) || (n == new_in chosen i) then [] else bs
 numbers_kept chosen (Make_file d x i) n bs =
+    if (n == d) || (n == new_in chosen i) then [] else bs
+numbers_kept chosen (Make_fixed d x fixed i) n bs =
     if (n == d) || (n == new_in chosen i) then [] else bs
 numbers_kept chosen (Make_pipe i pid f g) n bs = kept_beside (new_in chosen i) n bs
 numbers_kept chosen (Name_file d x m) n bs = kept_beside d n bs
@@ -315,6 +350,8 @@ pub record TakesIn (chosen : List ℕ) (e : Edit) (old new : Patches) : Type 0 w
       → AllReach (net_at old.inodes n).contents o → AllReach (net_at new.inodes n).contents o
   pub pipes : (n : ℕ) (ends : ℕ × ℕ) → new_ends (net_at new.inodes n).contents ≡ Some ends
       → (new_ends (net_at old.inodes n).contents ≡ Some ends) ⊎ MakesPipe chosen e n ends
+  pub rights : (n : ℕ) (o : Option Rights) → rights_over (kept_at new.rights n) o
+      ≡ rights_after e n (rights_over (kept_at old.rights n) o)
   pub descriptions : (d : ℕ) (o : Option Description) → reopened (opening_at new.openings d) o
       ≡ description_after chosen e d (reopened (opening_at old.openings d) o)
   pub processes : (pid : ℕ) (o : Option Process) → reslotted (kept_at new.slots pid) o
@@ -342,20 +379,22 @@ pub record TakesIn (chosen : List ℕ) (e : Edit) (old new : Patches) : Type 0 w
 abbrev pub AreApart : List ℕ → Edit → Type 0
 AreApart chosen (Make_directory d x i) = new_in chosen i ≢ d
 AreApart chosen (Make_file d x i) = new_in chosen i ≢ d
+AreApart chosen (Make_fixed d x fixed i) = new_in chosen i ≢ d
 AreApart chosen (Make_pipe i pid f g) = new_in chosen (i + 1) ≢ new_in chosen (i + 2)
 AreApart chosen _ = ⊤
 
--- an edit that makes a directory, or a file
-abbrev pub making : What → ℕ → Name → Edit
-making A_directory d x = Make_directory d x 0
-making _ d x = Make_file d x 0
+-- an edit that makes such an object
+abbrev pub making : NewObject → ℕ → Name → Edit
+making New_directory d x = Make_directory d x 0
+making New_file d x = Make_file d x 0
+making (New_fixed fixed) d x = Make_fixed d x fixed 0
 
 -- an edit after which a slot gives this
 abbrev pub slotting : Option ℕ → ℕ → ℕ → List ℕ → Edit
 slotting (Some d) pid f pipes = Share_slot pid f d pipes
 slotting None pid f pipes = Clear_slot pid f pipes
 
--- an edit that takes the name of a directory, or of a file
+-- an edit that takes the name of a directory, or of anything else
 abbrev pub unnaming : What → ℕ → Name → ℕ → Edit
 unnaming A_directory d x n = Unname_directory d x n
 unnaming _ d x n = Unname_file d x n

@@ -5,7 +5,7 @@ use Rattle.std.specs.Prelude.{Option, Some, None, ⊤}
 use Rattle.std.specs.Ordering.{nat_cmp}
 use Rattle.model.specs.FiniteMap.{FinMap, empty, from_entries, get}
 use Rattle.model.specs.Places.{placed}
-use Rattle.model.specs.State.{Name, Inode, Description, Process, Kernel, mapped}
+use Rattle.model.specs.State.{Name, Inode, Description, Process, Rights, Kernel, mapped}
 use Rattle.model.specs.Changes.{holders, openings, tidy}
 use Rattle.call_laws.specs.WellFormed.{WellFormed}
 use Rattle.freeing_laws.specs.Pipes.{ArePair}
@@ -43,10 +43,12 @@ abbrev pub numbered : Processes → FinMap nat_cmp Process
 numbered processes = from_entries (placed 1 processes.list)
 
 -- the state of a plain kernel whose root is number 0
-abbrev pub stored : Processes → FinMap nat_cmp Inode → FinMap nat_cmp Description → Kernel
-stored processes inodes descriptions = record {
+abbrev pub stored : Processes → FinMap nat_cmp Inode → FinMap nat_cmp Rights
+    → FinMap nat_cmp Description → Kernel
+stored processes inodes rights descriptions = record {
   root = 0;
   inodes = inodes;
+  rights = rights;
   descriptions = descriptions;
   processes = numbered processes;
   made = length processes.list;
@@ -54,7 +56,7 @@ stored processes inodes descriptions = record {
 }
 
 abbrev pub state_of : Processes → Numbers → Kernel
-state_of processes s = stored processes (inodes s) (descriptions s)
+state_of processes s = stored processes (inodes s) s.rights (descriptions s)
 
 -- what is kept of a place that is in use
 abbrev pub reserve_in : Place → Option Reserve

@@ -4,9 +4,10 @@ ghost use Rattle.std.specs.Prelude.{length};
 ghost use Rattle.std.specs.List.{sum_by};
 ghost use Rattle.ids.specs.declared.limits.TheConstants.{DESCRIPTORS, LARGEST_FILE};
 ghost use Rattle.model.specs.State.{A_file, kind_of};
-ghost use Rattle.model.specs.Changes.{Append, Cut, Make_directory, Make_file, Make_pipe, Open_inode};
-ghost use Rattle.model.specs.Changes.{Move, Name_file, Put_bytes, Set_offset, Take, There, all_applied};
-ghost use Rattle.model.specs.Changes.{applied, news, tidy};
+ghost use Rattle.model.specs.Changes.{Append, Cut, Make_directory, Make_file, Make_fixed, Make_pipe};
+ghost use Rattle.model.specs.Changes.{Move, Name_file, Open_inode, Put_bytes, Set_offset, Set_rights};
+ghost use Rattle.model.specs.Changes.{Take, There};
+ghost use Rattle.model.specs.Changes.{all_applied, applied, news, tidy};
 ghost use Rattle.call_laws.specs.Fits.{Fits, FitsAll};
 ghost use Rattle.shadow.specs.Claims.{AreUnused, Claim, Covers, HaveParents, KeepsMore, KeepsSame};
 ghost use Rattle.shadow.specs.Claims.{claimed_by, claimed_by_one, reserved};
@@ -22,7 +23,7 @@ use crate::patches::{at_start, end_of, inode_replaced, is_last, number};
 use crate::reslotting::lay_slot;
 use crate::stable::Stable;
 use heap::Heap;
-use ids::{Edit, Fd, Mode, Name, Num, Nums, Pid, Replaced};
+use ids::{Edit, Fd, Fixed, Mode, Name, Num, Nums, Pid, Replaced, Rights};
 use objects::{FileData, PipeData};
 use std::alloc::AllocError;
 use store::{Object, OpenFile, OpenPipe};
@@ -123,7 +124,7 @@ impl Stable {
         Ok(())
     }
 
-    // An edit of a name or of bytes, or a new pipe. Refused memory changes nothing.
+    // An edit of a name, of bytes or of rights, or a new pipe. Refused memory changes nothing.
     fn perform_first(&mut self, chosen: &[Num], edit: Edit) -> Result<(), AllocError>
         requires first { IsFirst edit }
         requires count { news edit ≤ length chosen.now }
@@ -161,7 +162,7 @@ impl Stable {
         }
     }
 
-    // An edit of a name, of a file's length or of a pipe's bytes. It takes no memory.
+    // An edit of a name, of a file's length, of a pipe's bytes or of rights. It takes no memory.
     fn perform_without_memory(&mut self, chosen: &[Num], edit: Edit)
         requires first { TakesNoMemory edit }
         requires count { news edit ≤ length chosen.now }
@@ -179,6 +180,7 @@ impl Stable {
                 self.append(pipe, bytes.as_slice());
                 drop(bytes);
             }
+            Edit::SetRights { inode, rights } => self.set_rights(inode, rights),
             other => self.perform_naming(chosen, other),
         }
     }
@@ -197,6 +199,12 @@ impl Stable {
                 self.make_directory(parent, name, chosen[0]);
             }
             Edit::MakeFile { parent, name, .. } => self.make_file(parent, name, chosen[0]),
+            Edit::MakeFixed {
+                parent,
+                name,
+                fixed,
+                ..
+            } => self.make_fixed(parent, name, fixed, chosen[0]),
             Edit::NameFile { parent, name, file } => self.link(parent, name, file),
             Edit::UnnameFile { parent, name, file } => {
                 self.unname(parent, &name, file);
@@ -293,6 +301,20 @@ impl Stable {
         self.store.add_name(parent, name, num);
     }
 
+    // The new object of a reserved number, which never changes, is there, with its name.
+    fn make_fixed(&mut self, parent: Num, name: Name, fixed: Fixed, num: Num)
+        requires fits { Fits (num ∷ []) self.old.state (Make_fixed parent name fixed 0) }
+        requires covers { (c : Claim)
+            → claimed_by_one c (num ∷ []) (Make_fixed parent name fixed 0) ≤ reserved self.old c }
+        ensures state { self.new.state
+            ≡ tidy (applied (num ∷ []) (Make_fixed parent name fixed 0) self.old.state) }
+        ensures kept { KeepsMore self.new self.old
+            (λ c. claimed_by_one c (num ∷ []) (Make_fixed parent name fixed 0)) }
+    {
+        self.store.install_as(num, Object::Fixed(fixed));
+        self.store.add_name(parent, name, num);
+    }
+
     // The new pipe of a reserved number is there, with the descriptors and the descriptions of its two
     // ends. Refused memory changes nothing.
     fn make_pipe(
@@ -336,7 +358,8 @@ impl Stable {
         Ok(())
     }
 
-    // One more name for a file, in the room that is kept for it.
+    // One more name for a file, or for anything else that is no directory, in the room that is kept
+    // for it.
     fn link(&mut self, parent: Num, name: Name, file: Num)
         requires fits { Fits [] self.old.state (Name_file parent name file) }
         requires covers { (c : Claim)
@@ -423,6 +446,15 @@ impl Stable {
         ensures kept { KeepsSame self.old self.new }
     {
         self.store.change_pipe(pipe, 0, bytes);
+    }
+
+    // The permissions and the owner of an inode are set.
+    fn set_rights(&mut self, inode: Num, rights: Rights)
+        requires { Fits [] self.old.state (Set_rights inode rights) }
+        ensures state { self.new.state ≡ applied [] (Set_rights inode rights) self.old.state }
+        ensures kept { KeepsSame self.old self.new }
+    {
+        self.store.set_rights(inode, rights);
     }
 
     // The new description of a reserved number is there, with its slot.

@@ -1,6 +1,6 @@
 // What a transaction has changed of one inode.
 ghost use Rattle.std.specs.Prelude.{◌≡◌, ◌↔◌, ◌++◌, ◌+◌, ◌≤◌, ◌<◌, ◌^◌, [], ℕ, Contains, IfOk, OnErr};
-ghost use Rattle.std.specs.Prelude.{OnOk, Option, None, Some, drop, length, ◌≢◌};
+ghost use Rattle.std.specs.Prelude.{OnOk, Option, None, Some, drop, length};
 ghost use Rattle.ids.specs.declared.limits.TheConstants.{LARGEST_FILE};
 ghost use Rattle.model.specs.FiniteMap.{empty, insert};
 ghost use Rattle.model.specs.State.{File, Inode};
@@ -10,18 +10,17 @@ ghost use Rattle.shadow.specs.Patches.{AllReach, added_by, bytes_before, form_of
 ghost use Rattle.shadow.specs.Patches.{of_bytes, patched};
 ghost use Rattle.shadow.specs.Patches.{numbers_in, untouched};
 ghost use Rattle.shadow.specs.declared.change.Contents.TheVariants.{Names};
-ghost use Rattle.shadow.specs.declared.change.Made.TheVariants as Made;
 ghost use Rattle.shadow.specs.declared.change.Former.TheVariants.{Noted, Other};
 ghost use Rattle.shadow.specs.Notes.{IsAppended, IsPassedBy, IsPiped, IsTaken};
 ghost use Rattle.shadow.specs.Notes.{IsCut, IsGiven, IsGone, IsMade, IsNamed, IsPutBack, IsUnnamed};
 ghost use Rattle.shadow.specs.Notes.{IsWritten, put_back, room_for};
 ghost use Rattle.shadow.specs.Steps.{bytes_cut, bytes_written, filed, listed, name_noted};
-ghost use Rattle.shadow.specs.Steps.{new_form, new_inode};
 
+use crate::new_object::NewObject;
 use dirlist::NamePatch;
 use file_shadow::FileShadow;
 use heap::Heap;
-use ids::{Name, Num};
+use ids::{Fixed, Name, Num};
 use pipe_shadow::PipeShadow;
 use std::alloc::AllocError;
 use std::mem;
@@ -36,6 +35,8 @@ pub(crate) enum Made {
     File,
     /// A pipe.
     Pipe,
+    /// A symbolic link, a FIFO or a socket.
+    Fixed,
 }
 
 /// What has changed of an inode's contents.
@@ -64,6 +65,8 @@ pub(crate) enum Contents {
         /// What is taken from it and appended to it.
         changes: PipeShadow,
     },
+    /// All of them: an object is new, and never changes.
+    Fixed(Fixed),
 }
 
 /// What a note of a name took the place of.
@@ -199,14 +202,13 @@ impl InodeChange {
     }
 
     /// Notes that the transaction made the object, with its first name. It takes no memory.
-    pub(crate) fn note_made(&mut self, heap: Heap, what: Made)
-        requires count { self.old.named + 1 < 2 ^ 64 }
-        requires named { what ≢ Made.Pipe }
+    pub(crate) fn note_made(&mut self, heap: Heap, what: NewObject)
+        requires { self.old.named + 1 < 2 ^ 64 }
         ensures { IsMade what (net_of (Some self.old)) (net_of (Some self.new)) }
     {
-        self.made = Some(what);
+        self.made = Some(what.made());
         self.named += 1;
-        drop(mem::replace(&mut self.contents, fresh_of(heap, what)));
+        drop(mem::replace(&mut self.contents, what.into_contents(heap)));
     }
 
     /// Notes that the inode has a name more. It takes no memory.
@@ -226,29 +228,6 @@ impl InodeChange {
     }
 }
 
-// The changes of a directory or a file that is new and empty.
-fn fresh_of(heap: Heap, what: Made) -> Contents
-    requires { what ≢ Made.Pipe }
-    ensures contents { (o : Option Inode) → patched result o ≡ Some (new_inode what) }
-    ensures form { form_of result ≡ new_form what }
-    ensures added { added_by result ≡ 0 }
-    ensures ends { new_ends result ≡ None }
-    ensures reach { (o : Option Inode) → AllReach result o }
-    ensures numbers { numbers_in result ≡ [] }
-{
-    match what {
-        Made::Directory => Contents::Names {
-            is_fresh: true,
-            names: NamePatch::new(heap),
-        },
-        Made::File => Contents::Bytes {
-            is_fresh: true,
-            bytes: FileShadow::new(heap),
-        },
-        Made::Pipe => unreachable!(),
-    }
-}
-
 // How much room in its directory a name takes that comes.
 fn room_for(given: &Option<Num>) -> usize
     ensures { result ≡ room_for given.now }
@@ -259,7 +238,7 @@ fn room_for(given: &Option<Num>) -> usize
     }
 }
 
-// Notes what a name gives now; bytes of a file or of a pipe go.
+// Notes what a name gives now; what is no directory goes.
 fn note_in(
     contents: &mut Contents,
     heap: Heap,
@@ -281,6 +260,7 @@ fn note_in(
         Contents::Same => note_first(contents, heap, false, name, given),
         Contents::Bytes { .. } => note_first(contents, heap, true, name, given),
         Contents::Pipe { .. } => note_first(contents, heap, true, name, given),
+        Contents::Fixed(_) => note_first(contents, heap, true, name, given),
     }
 }
 
@@ -300,8 +280,7 @@ fn note_first(
     Ok(())
 }
 
-// Notes that a name is gone, and gives what the note took the place of; bytes of a file or of a pipe
-// go.
+// Notes that a name is gone, and gives what the note took the place of; what is no directory goes.
 fn note_gone_in(contents: &mut Contents, heap: Heap, name: Name) -> Result<Former, AllocError>
     ensures contents { OnOk result ((o : Option Inode)
         → patched contents.new o ≡ name_noted name None (patched contents.old o)) }
@@ -322,6 +301,7 @@ fn note_gone_in(contents: &mut Contents, heap: Heap, name: Name) -> Result<Forme
         Contents::Same => note_first_gone(contents, heap, false, name),
         Contents::Bytes { .. } => note_first_gone(contents, heap, true, name),
         Contents::Pipe { .. } => note_first_gone(contents, heap, true, name),
+        Contents::Fixed(_) => note_first_gone(contents, heap, true, name),
     }
 }
 
@@ -349,6 +329,7 @@ fn put_back_in(contents: &mut Contents, name: &Name, given: Option<Option<Num>>)
         Contents::Same => (),
         Contents::Bytes { .. } => (),
         Contents::Pipe { .. } => (),
+        Contents::Fixed(_) => (),
     }
 }
 
@@ -369,7 +350,7 @@ fn first_name(
     })
 }
 
-// Notes bytes that are written; names of a directory go, and bytes of a pipe.
+// Notes bytes that are written; what is no file goes.
 fn write_in(
     contents: &mut Contents,
     heap: Heap,
@@ -389,6 +370,7 @@ fn write_in(
         Contents::Same => write_first(contents, heap, false, offset, bytes),
         Contents::Names { .. } => write_first(contents, heap, true, offset, bytes),
         Contents::Pipe { .. } => write_first(contents, heap, true, offset, bytes),
+        Contents::Fixed(_) => write_first(contents, heap, true, offset, bytes),
     }
 }
 
@@ -430,7 +412,7 @@ fn first_bytes(heap: Heap, fresh: bool, offset: usize, bytes: &[u8]) -> Result<C
     })
 }
 
-// Notes a file's length; names of a directory go, and bytes of a pipe.
+// Notes a file's length; what is no file goes.
 fn cut_in(contents: &mut Contents, heap: Heap, len: usize)
     requires { len ≤ LARGEST_FILE }
     ensures contents { (o : Option Inode)
@@ -443,6 +425,7 @@ fn cut_in(contents: &mut Contents, heap: Heap, len: usize)
         Contents::Same => cut_first(contents, heap, false, len),
         Contents::Names { .. } => cut_first(contents, heap, true, len),
         Contents::Pipe { .. } => cut_first(contents, heap, true, len),
+        Contents::Fixed(_) => cut_first(contents, heap, true, len),
     }
 }
 
@@ -473,7 +456,7 @@ fn first_cut(heap: Heap, fresh: bool, len: usize) -> Contents
     }
 }
 
-// Notes bytes that are taken from a pipe. What shows a directory or a file stays as it is.
+// Notes bytes that are taken from a pipe. What shows anything else stays as it is.
 fn take_in(contents: &mut Contents, heap: Heap, count: usize) -> Result<(), AllocError>
     ensures ok { OnOk result (IsPassedBy (drop count) count contents.old contents.new) }
     ensures err { OnErr result (contents.new ≡ contents.old) }
@@ -488,10 +471,11 @@ fn take_in(contents: &mut Contents, heap: Heap, count: usize) -> Result<(), Allo
         }
         Contents::Names { .. } => Ok(()),
         Contents::Bytes { .. } => Ok(()),
+        Contents::Fixed(_) => Ok(()),
     }
 }
 
-// Notes bytes that are appended to a pipe. What shows a directory or a file stays as it is.
+// Notes bytes that are appended to a pipe. What shows anything else stays as it is.
 fn append_in(contents: &mut Contents, heap: Heap, bytes: &[u8]) -> Result<(), AllocError>
     ensures ok { OnOk result (IsPassedBy (λ xs. xs ++ bytes.now) 0 contents.old contents.new) }
     ensures err { OnErr result (contents.new ≡ contents.old) }
@@ -506,5 +490,6 @@ fn append_in(contents: &mut Contents, heap: Heap, bytes: &[u8]) -> Result<(), Al
         }
         Contents::Names { .. } => Ok(()),
         Contents::Bytes { .. } => Ok(()),
+        Contents::Fixed(_) => Ok(()),
     }
 }

@@ -36,6 +36,7 @@ pub(crate) fn parent_of(edits: &[Edit]) -> Option<Num>
     match edits.first() {
         Some(Edit::MakeDirectory { parent, .. }) => Some(*parent),
         Some(Edit::MakeFile { parent, .. }) => Some(*parent),
+        Some(Edit::MakeFixed { parent, .. }) => Some(*parent),
         Some(Edit::NameFile { parent, .. }) => Some(*parent),
         Some(Edit::Move { to, .. }) => Some(*to),
         _ => None,
@@ -103,6 +104,7 @@ impl Stable {
                 self.reserve(Object::Directory(dir), chosen)
             }
             Edit::MakeFile { .. } => self.reserve(Object::Nothing, chosen),
+            Edit::MakeFixed { .. } => self.reserve(Object::Nothing, chosen),
             Edit::OpenInode { .. } => self.reserve(Object::Nothing, chosen),
             Edit::MakePipe { .. } => self.reserve_three(chosen),
             _ => Ok(()),

@@ -7,9 +7,9 @@ ghost use Rattle.shadow.specs.Patches.{kept_at, net_at, numbers_in};
 ghost use Rattle.shadow.specs.Notes.{AreNamed, At, IsCut, IsGiven, IsGone, IsMade, IsNamed};
 ghost use Rattle.shadow.specs.Notes.{IsAppended, IsPiped, IsPutBack, IsTaken, IsUnnamed, IsWritten};
 ghost use Rattle.shadow.specs.Notes.{SameInodes};
-ghost use Rattle.shadow.specs.declared.change.Made.TheVariants as Made;
 
-use crate::change::{Contents, Former, InodeChange, Made};
+use crate::change::{Contents, Former, InodeChange};
+use crate::new_object::NewObject;
 use heap::Heap;
 use ids::{Name, Num};
 use std::alloc::AllocError;
@@ -235,9 +235,8 @@ impl Inodes {
         }
     }
 
-    /// Notes that a directory or a file is new, in its place. It takes no memory.
-    pub(crate) fn note_made(&mut self, num: Num, what: Made)
-        requires named { what ≢ Made.Pipe }
+    /// Notes that such an object is new, in its place, with its first name. It takes no memory.
+    pub(crate) fn note_made(&mut self, num: Num, what: NewObject)
         requires place { kept_at self.old num ≢ None }
         requires count { (net_at self.old num).named + 1 < 2 ^ 64 }
         ensures { At num (IsMade what) self.old self.new }
@@ -294,6 +293,7 @@ fn changed_in(contents: &Contents) -> &[u32]
         Contents::Bytes { bytes, .. } => bytes.changed(),
         Contents::Names { .. } => &[],
         Contents::Pipe { .. } => &[],
+        Contents::Fixed(_) => &[],
         Contents::Same => &[],
     }
 }

@@ -5,7 +5,8 @@ ghost use Rattle.ids.specs.declared.limits.TheConstants.{PIPE_CAPACITY};
 ghost use Rattle.model.specs.FiniteMap.{get};
 ghost use Rattle.store.specs.Numbers.{coming};
 ghost use Rattle.store.specs.declared.Object.TheVariants.{Nothing};
-ghost use Rattle.shadow.specs.Laid.{AreReady, AreReopened, IsCarried, IsReady, IsReadyFile};
+ghost use Rattle.shadow.specs.Laid.{AreReady, AreReopened, AreRevised, CanBeSet, CanBeSetThen};
+ghost use Rattle.shadow.specs.Laid.{IsCarried, IsReady, IsReadyFile};
 ghost use Rattle.model.specs.State.{pipe_of_inode};
 ghost use Rattle.pipe_shadow.specs.View.{view_over as pipe_over};
 ghost use Rattle.store.specs.Numbers.{present};
@@ -13,10 +14,11 @@ ghost use Rattle.store.specs.Shown.{inodes};
 ghost use Rattle.store.specs.declared.Object.TheVariants.{Pipe as A_pipe};
 ghost use Rattle.shadow.specs.Laid.{IsPassedOver, IsReadyPipe, IsReopened, IsWrittenOver};
 ghost use Rattle.shadow.specs.declared.opening.Opening.TheVariants.{New};
-ghost use Rattle.shadow.specs.Patches.{is_new, kept_at, opening_at};
+ghost use Rattle.shadow.specs.Patches.{is_new, kept_at, opening_at, rights_over};
 
 use crate::change::{Contents, InodeChange};
 use crate::inodes::Inodes;
+use crate::new_rights::NewRights;
 use crate::opening::{Opening, Openings};
 use file_shadow::FileShadow;
 use heap::Heap;
@@ -25,10 +27,41 @@ use objects::{Description, FileData};
 use pipe_shadow::PipeShadow;
 use store::{Object, OpenFile, OpenPipe, Opened, Store};
 
-/// Makes what is changed of inodes, in the room that is kept for it. It takes no memory.
-pub(crate) fn lay_inodes(store: &mut Store, heap: Heap, inodes: Inodes)
+/// Makes what is changed of inodes, in the room that is kept for it, and sets their rights then. It
+/// takes no memory.
+pub(crate) fn lay_inodes_with_rights(
+    store: &mut Store,
+    heap: Heap,
+    inodes: Inodes,
+    rights: &NewRights,
+)
+    requires ready { AreReady inodes store.old }
+    requires set { CanBeSetThen inodes rights.now store.old }
+    ensures root { store.new.root ≡ store.old.root }
+    ensures places { (n : ℕ)
+        → IsCarried (kept_at inodes n) (get store.old.places n) (get store.new.places n) }
+    ensures rights { (n : ℕ) → get store.new.rights n
+        ≡ rights_over (kept_at rights.now n) (get store.old.rights n) }
+{
+    lay_inodes(store, heap, inodes);
+    lay_rights(store, rights);
+}
+
+// Sets rights of inodes that are there.
+fn lay_rights(store: &mut Store, rights: &NewRights)
+    requires { CanBeSet rights.now store.old }
+    ensures { AreRevised rights.now store.old store.new }
+{
+    for (num, given) in &rights.each {
+        store.set_rights(*num, *given);
+    }
+}
+
+// Makes what is changed of inodes.
+fn lay_inodes(store: &mut Store, heap: Heap, inodes: Inodes)
     requires { AreReady inodes store.old }
     ensures root { store.new.root ≡ store.old.root }
+    ensures rights { store.new.rights ≡ store.old.rights }
     ensures places { (n : ℕ)
         → IsCarried (kept_at inodes n) (get store.old.places n) (get store.new.places n) }
 {
@@ -41,6 +74,7 @@ pub(crate) fn lay_inodes(store: &mut Store, heap: Heap, inodes: Inodes)
 fn lay_inode(store: &mut Store, heap: Heap, num: Num, change: InodeChange)
     requires { IsReady store.old num change }
     ensures root { store.new.root ≡ store.old.root }
+    ensures rights { store.new.rights ≡ store.old.rights }
     ensures here { IsCarried (Some change) (get store.old.places num) (get store.new.places num) }
     ensures others { (n : ℕ) → n ≢ num → get store.new.places n ≡ get store.old.places n }
 {
@@ -71,6 +105,7 @@ fn lay_inode(store: &mut Store, heap: Heap, num: Num, change: InodeChange)
                 None => lay_pipe(store, num, &changes),
             }
         }
+        Contents::Fixed(fixed) => store.install_as(num, Object::Fixed(fixed)),
     }
 }
 
@@ -78,6 +113,7 @@ fn lay_inode(store: &mut Store, heap: Heap, num: Num, change: InodeChange)
 fn install_pipe(store: &mut Store, num: Num, pipe: OpenPipe, changes: PipeShadow)
     requires ready { IsReadyPipe (Some pipe) changes (get store.old.places num) }
     ensures root { store.new.root ≡ store.old.root }
+    ensures rights { store.new.rights ≡ store.old.rights }
     ensures here { get store.new.places num ≡ Some (present (A_pipe (record pipe {
       bytes = pipe_over changes pipe.bytes;
     }))) }
@@ -92,6 +128,7 @@ fn install_pipe(store: &mut Store, num: Num, pipe: OpenPipe, changes: PipeShadow
 fn lay_pipe(store: &mut Store, num: Num, changes: &PipeShadow)
     requires ready { IsReadyPipe None changes.now (get store.old.places num) }
     ensures root { store.new.root ≡ store.old.root }
+    ensures rights { store.new.rights ≡ store.old.rights }
     ensures here { IsPassedOver changes.now (get store.old.places num) (get store.new.places num) }
     ensures others { (n : ℕ) → n ≢ num → get store.new.places n ≡ get store.old.places n }
 {
@@ -114,6 +151,7 @@ pub(crate) fn pipe_len(store: &Store, num: Num) -> usize
 fn install_file(store: &mut Store, heap: Heap, num: Num, bytes: FileShadow)
     requires ready { IsReadyFile true (get store.old.places num) }
     ensures root { store.new.root ≡ store.old.root }
+    ensures rights { store.new.rights ≡ store.old.rights }
     ensures here { IsWrittenOver bytes (get store.old.places num) (get store.new.places num) }
     ensures others { (n : ℕ) → n ≢ num → get store.new.places n ≡ get store.old.places n }
 {
@@ -132,6 +170,7 @@ fn install_file(store: &mut Store, heap: Heap, num: Num, bytes: FileShadow)
 fn lay_bytes(store: &mut Store, heap: Heap, num: Num, bytes: FileShadow)
     requires ready { IsReadyFile false (get store.old.places num) }
     ensures root { store.new.root ≡ store.old.root }
+    ensures rights { store.new.rights ≡ store.old.rights }
     ensures here { IsWrittenOver bytes (get store.old.places num) (get store.new.places num) }
     ensures others { (n : ℕ) → n ≢ num → get store.new.places n ≡ get store.old.places n }
 {

@@ -10,6 +10,8 @@ mod closing;
 mod inodes;
 mod laying;
 mod log;
+mod new_object;
+mod new_rights;
 mod opening;
 mod overlay;
 mod patches;

@@ -4,7 +4,7 @@ ghost use Rattle.std.specs.Prelude.{false, length, option_copied, take};
 ghost use Rattle.model.specs.FiniteMap.{get, keys};
 ghost use Rattle.model.specs.Paths.{is_empty};
 ghost use Rattle.model.specs.State.{Inode, file_of_inode, kind, mapped};
-ghost use Rattle.model.specs.State.{Pipe as A_pipe, names_of_inode, pipe_of_inode};
+ghost use Rattle.model.specs.State.{Pipe as A_pipe, names_of_inode, pipe_of_inode, target_of_inode};
 ghost use Rattle.store.specs.Shown.{pipe_inode};
 ghost use Rattle.objects.specs.declared.run.TheConstants.{LARGEST_RUN};
 ghost use Rattle.shadow.specs.Patches.{form_of, of_pipe, patched};
@@ -28,6 +28,7 @@ pub(crate) fn kind_over(contents: &Contents, stored: Option<Kind>) -> Option<Kin
         Contents::Names { .. } => Some(Kind::Dir),
         Contents::Bytes { .. } => Some(Kind::File),
         Contents::Pipe { .. } => Some(Kind::Pipe),
+        Contents::Fixed(fixed) => Some(fixed.kind()),
     }
 }
 
@@ -40,6 +41,7 @@ pub(crate) fn given_over(contents: &Contents, name: &Name, stored: Option<Num>) 
         Contents::Same => stored,
         Contents::Bytes { .. } => None,
         Contents::Pipe { .. } => None,
+        Contents::Fixed(_) => None,
         Contents::Names { is_fresh, names } => match names.look(name) {
             Some(given) => given,
             None if *is_fresh => None,
@@ -61,6 +63,7 @@ pub(crate) fn names_over(
         Contents::Same => stored.names(heap),
         Contents::Bytes { .. } => Dir::new(heap).names(heap),
         Contents::Pipe { .. } => Dir::new(heap).names(heap),
+        Contents::Fixed(_) => Dir::new(heap).names(heap),
         Contents::Names {
             is_fresh: true,
             names,
@@ -81,6 +84,7 @@ pub(crate) fn is_empty_over(heap: Heap, contents: &Contents, stored: &Dir) -> bo
         Contents::Same => stored.is_empty(),
         Contents::Bytes { .. } => true,
         Contents::Pipe { .. } => true,
+        Contents::Fixed(_) => true,
         Contents::Names {
             is_fresh: true,
             names,
@@ -101,6 +105,7 @@ pub(crate) fn len_over(heap: Heap, contents: &Contents, stored: &FileData) -> us
         Contents::Same => stored.len(),
         Contents::Names { .. } => 0,
         Contents::Pipe { .. } => 0,
+        Contents::Fixed(_) => 0,
         Contents::Bytes {
             is_fresh: true,
             bytes,
@@ -128,6 +133,7 @@ pub(crate) fn bytes_over(
         Contents::Same => stored.read_at(heap, offset, count),
         Contents::Names { .. } => Ok(Bytes::new(Vec::new(heap))),
         Contents::Pipe { .. } => Ok(Bytes::new(Vec::new(heap))),
+        Contents::Fixed(_) => Ok(Bytes::new(Vec::new(heap))),
         Contents::Bytes {
             is_fresh: true,
             bytes,
@@ -172,6 +178,7 @@ pub(crate) fn new_ends(contents: &Contents) -> Option<(Num, Num)>
         Contents::Same => None,
         Contents::Names { .. } => None,
         Contents::Bytes { .. } => None,
+        Contents::Fixed(_) => None,
     }
 }
 
@@ -207,6 +214,7 @@ pub(crate) fn front_over(
         Contents::Same => front_of(heap, stored, count),
         Contents::Names { .. } => Ok(Bytes::new(Vec::new(heap))),
         Contents::Bytes { .. } => Ok(Bytes::new(Vec::new(heap))),
+        Contents::Fixed(_) => Ok(Bytes::new(Vec::new(heap))),
         Contents::Pipe {
             new: Some(pipe),
             changes,
@@ -241,6 +249,7 @@ pub(crate) fn pipe_len_over(contents: &Contents, stored: Option<&OpenPipe>) -> u
         Contents::Same => pipe_len_of(stored),
         Contents::Names { .. } => 0,
         Contents::Bytes { .. } => 0,
+        Contents::Fixed(_) => 0,
         Contents::Pipe {
             new: Some(pipe),
             changes,
@@ -249,5 +258,19 @@ pub(crate) fn pipe_len_over(contents: &Contents, stored: Option<&OpenPipe>) -> u
             Some(pipe) => changes.len(&pipe.bytes),
             None => unreachable!(),
         },
+    }
+}
+
+// The target of a symbolic link, with changes of its contents; no bytes where it is none.
+pub(crate) fn target_over<'a>(contents: &'a Contents, stored: &'a [u8]) -> &'a [u8]
+    ensures { (o : Option Inode) → target_of_inode o ≡ stored.now
+        → result.now ≡ target_of_inode (patched contents.now o) }
+{
+    match contents {
+        Contents::Same => stored,
+        Contents::Names { .. } => &[],
+        Contents::Bytes { .. } => &[],
+        Contents::Pipe { .. } => &[],
+        Contents::Fixed(fixed) => fixed.target(),
     }
 }

@@ -3,34 +3,35 @@ ghost use Rattle.std.specs.Prelude.{◌≡◌, ◌≢◌, ◌+◌, ◌≤◌, �
 ghost use Rattle.std.specs.Prelude.{◌<◌, None, Some, if◌then◌else◌, true};
 ghost use Rattle.ids.specs.declared.limits.TheConstants.{LARGEST_FILE};
 ghost use Rattle.model.specs.Changes.{Name_file, Move, Put_bytes, Cut, news, number, at_start};
-ghost use Rattle.model.specs.Changes.{Append, Make_pipe, Take, inode_replaced, to_read, to_write};
+ghost use Rattle.model.specs.Changes.{Append, Make_pipe, Set_rights, Take, inode_replaced, to_read, to_write};
 ghost use Rattle.model.specs.Limits.{descriptor_limit};
 ghost use Rattle.freeing_laws.specs.Counts.{listed};
 ghost use Rattle.shadow.specs.Notes.{SamePatches};
 ghost use Rattle.shadow.specs.Openings.{AtOpening, AtSlots, IsOpened, SameOpenings, SameSlots};
 ghost use Rattle.shadow.specs.Patches.{kept_at};
-ghost use Rattle.shadow.specs.declared.change.Made.TheVariants as Made;
 ghost use Rattle.std.specs.List.{AllByRecursion, sum_by};
 ghost use Rattle.shadow.specs.Steps.{AreApart, CanEdit, HasPlaces, IsBelow, IsFirst, IsLast};
 ghost use Rattle.shadow.specs.Steps.{IsNaming, TakesAll, TakesIn, is_last, making, unnaming};
 ghost use Rattle.shadow.specs.declared.change.Made.{Made as What};
 
-use crate::change::Made;
 use crate::inodes::Inodes;
+use crate::new_object::NewObject;
+use crate::new_rights::NewRights;
 use crate::opening::Openings;
 use crate::slots::Slots;
 use heap::Heap;
-use ids::{Bytes, Edit, Fd, Mode, Name, Num, Nums, Pid, Replaced, Which};
+use ids::{Bytes, Edit, Fd, Mode, Name, Num, Nums, Pid, Replaced, Rights, Which};
 use objects::{Description, PipeData};
 use std::alloc::AllocError;
 use std::marker::Model;
 use store::OpenPipe;
 
-/// All that a transaction has changed, by the numbers of inodes, of descriptions and of processes,
-/// and what has lost a name, in order.
+/// All that a transaction has changed, by the numbers of inodes, with the rights that it set of them,
+/// of descriptions and of processes, and what has lost a name, in order.
 #[derive(Drop)]
 pub(crate) struct Patches {
     pub(crate) inodes: Inodes,
+    pub(crate) rights: NewRights,
     pub(crate) openings: Openings,
     pub(crate) slots: Slots,
     pub(crate) unnamed_inodes: Vec<Num, Heap>,
@@ -43,6 +44,7 @@ impl Model for Patches {
 
     ghost view = { λ p. record {
       inodes = p.inodes;
+      rights = p.rights;
       openings = p.openings;
       slots = p.slots;
       unnamed_inodes = p.unnamed_inodes.items;
@@ -100,10 +102,17 @@ pub(crate) fn inode_replaced(replaced: Replaced) -> Option<Num>
 impl Patches {
     /// Nothing is changed. It takes no memory.
     pub(crate) fn new(heap: Heap) -> Patches
-        ensures { result ≡ record { inodes = []; openings = []; slots = []; unnamed_inodes = [] } }
+        ensures { result ≡ record {
+          inodes = [];
+          rights = [];
+          openings = [];
+          slots = [];
+          unnamed_inodes = [];
+        } }
     {
         Patches {
             inodes: Inodes::new(heap),
+            rights: NewRights::new(heap),
             openings: Openings::new(heap),
             slots: Slots::new(heap),
             unnamed_inodes: Vec::new(heap),
@@ -166,7 +175,8 @@ impl Patches {
         }
     }
 
-    /// Notes an edit of a name or of bytes, or a new pipe. Refused memory changes nothing that shows.
+    /// Notes an edit of a name, of bytes or of rights, or a new pipe. Refused memory changes nothing
+    /// that shows.
     pub(crate) fn note_first(&mut self, chosen: &[Num], edit: Edit) -> Result<(), AllocError>
         requires first { IsFirst edit }
         requires count { news edit ≤ length chosen.now }
@@ -196,6 +206,7 @@ impl Patches {
                 drop(bytes);
                 noted
             }
+            Edit::SetRights { inode, rights } => self.set_rights(inode, rights),
             Edit::MakePipe {
                 process,
                 reader,
@@ -218,11 +229,17 @@ impl Patches {
     {
         match edit {
             Edit::MakeDirectory { parent, name, .. } => {
-                self.make(Made::Directory, parent, name, chosen[0])
+                self.make(NewObject::Directory, parent, name, chosen[0])
             }
             Edit::MakeFile { parent, name, .. } => {
-                self.make(Made::File, parent, name, chosen[0])
+                self.make(NewObject::File, parent, name, chosen[0])
             }
+            Edit::MakeFixed {
+                parent,
+                name,
+                fixed,
+                ..
+            } => self.make(NewObject::Fixed(fixed), parent, name, chosen[0]),
             Edit::NameFile { parent, name, file } => self.link(parent, name, file),
             Edit::UnnameFile { parent, name, file } => self.unname(parent, name, file),
             Edit::UnnameDirectory {
@@ -247,9 +264,8 @@ impl Patches {
     }
 
     // A new object with its name.
-    fn make(&mut self, what: Made, parent: Num, name: Name, num: Num) -> Result<(), AllocError>
-        requires apart { num ≢ parent }
-        requires named { what ≢ Made.Pipe }
+    fn make(&mut self, what: NewObject, parent: Num, name: Name, num: Num) -> Result<(), AllocError>
+        requires { num ≢ parent }
         ensures ok { OnOk result (TakesIn (num ∷ []) (making what parent name) self.old self.new) }
         ensures err { OnErr result (SamePatches self.old self.new) }
         ensures openings { self.new.openings ≡ self.old.openings }
@@ -262,7 +278,7 @@ impl Patches {
         Ok(())
     }
 
-    // One more name for a file.
+    // One more name for a file, or for anything else that is no directory.
     fn link(&mut self, parent: Num, name: Name, file: Num) -> Result<(), AllocError>
         ensures ok { OnOk result ((chosen : List ℕ)
             → TakesIn chosen (Name_file parent name file) self.old self.new) }
@@ -374,6 +390,17 @@ impl Patches {
         self.inodes.append(pipe, bytes.as_slice())
     }
 
+    // The permissions and the owner of an inode are set.
+    fn set_rights(&mut self, inode: Num, rights: Rights) -> Result<(), AllocError>
+        ensures ok { OnOk result ((chosen : List ℕ)
+            → TakesIn chosen (Set_rights inode rights) self.old self.new) }
+        ensures err { OnErr result (SamePatches self.old self.new) }
+        ensures openings { self.new.openings ≡ self.old.openings }
+        ensures slots { self.new.slots ≡ self.old.slots }
+    {
+        self.rights.set(inode, rights)
+    }
+
     // A new pipe, with the descriptors and the descriptions of its two ends.
     fn make_pipe(
         &mut self,
@@ -411,6 +438,7 @@ impl Patches {
     // Makes places for two new descriptions and their descriptors. Refused memory changes nothing.
     fn make_ends(&mut self, pid: Pid, reader: Num, writer: Num) -> Result<(), AllocError>
         ensures inodes { self.new.inodes ≡ self.old.inodes }
+        ensures rights { self.new.rights ≡ self.old.rights }
         ensures unnamed_inodes { self.new.unnamed_inodes ≡ self.old.unnamed_inodes }
         ensures openings { SameOpenings self.old.openings self.new.openings }
         ensures slots { SameSlots self.old.slots self.new.slots }
@@ -428,6 +456,7 @@ impl Patches {
             × (kept_at self.old.slots pid ≢ None) }
         requires low { end.0 < descriptor_limit }
         ensures inodes { self.new.inodes ≡ self.old.inodes }
+        ensures rights { self.new.rights ≡ self.old.rights }
         ensures unnamed_inodes { self.new.unnamed_inodes ≡ self.old.unnamed_inodes }
         ensures openings { AtOpening end.1 (IsOpened description) self.old.openings
             self.new.openings }

@@ -14,7 +14,7 @@ ghost use Rattle.shadow.specs.Steps.{CanEdit};
 
 use crate::claiming::parent_of;
 use crate::closing::{close_former, close_new, free_all};
-use crate::laying::{lay_inodes, lay_openings};
+use crate::laying::{lay_inodes_with_rights, lay_openings};
 use crate::log::Log;
 use crate::patches::Patches;
 use crate::reslotting::lay_slots;
@@ -117,13 +117,14 @@ impl Shadow {
         let Shadow { log: _, patches } = self;
         let Patches {
             inodes,
+            rights,
             openings,
             mut slots,
             unnamed_inodes,
         } = patches;
         let heap = stable.heap();
         let store = &mut stable.store;
-        lay_inodes(store, heap, inodes);
+        lay_inodes_with_rights(store, heap, inodes, &rights);
         lay_openings(store, &openings);
         lay_slots(store, &mut stable.processes, &mut slots);
         close_former(store, &slots);

@@ -5,7 +5,7 @@ ghost use Rattle.ids.specs.declared.limits.TheConstants.{LARGEST_FILE};
 ghost use Rattle.std.specs.List.{AllByRecursion};
 ghost use Rattle.model.specs.FiniteMap.{empty, get};
 ghost use Rattle.model.specs.State.{file_of, kind_of, links, mapped, names_of, File as A_file};
-ghost use Rattle.model.specs.State.{Pipe as A_pipe};
+ghost use Rattle.model.specs.State.{Pipe as A_pipe, target_of};
 ghost use Rattle.model.specs.Changes.{all_applied, holders, process_of, tidy};
 ghost use Rattle.model.specs.Steps.{IsNowhere};
 ghost use Rattle.model.specs.Moments.{start, is_alive};
@@ -25,7 +25,7 @@ use crate::shadow::Shadow;
 use dirlist::Dir;
 use fdtable::FdTable;
 use heap::Heap;
-use ids::{Edit, Fd, Kind, Name, Num, Nums, Pid, Priority};
+use ids::{Edit, Fd, Kind, Name, Num, Nums, Pid, Priority, Rights};
 use objects::{Description, FileData};
 use std::alloc::AllocError;
 use std::marker::Model;
@@ -324,6 +324,20 @@ impl Stable {
             Some(file) => file,
             None => none,
         }
+    }
+
+    /// The target of a symbolic link; no bytes where the number is of none.
+    pub(crate) fn target(&self, link: Num) -> &[u8]
+        ensures { result.now ≡ target_of self.now.state link }
+    {
+        self.store.target(link)
+    }
+
+    /// The permissions and the owner that were set of an inode, if any were.
+    pub(crate) fn rights(&self, inode: Num) -> Option<Rights>
+        ensures { result ≡ get self.now.state.rights inode }
+    {
+        self.store.rights(inode)
     }
 
     /// An open file description.

@@ -2,7 +2,7 @@
 ghost use Rattle.std.specs.Prelude.{◌≡◌, ◌≤◌, IfOk, IfSome, drop};
 ghost use Rattle.std.specs.Prelude.{if◌then◌else◌, length, option_copied, option_map, take};
 ghost use Rattle.model.specs.FiniteMap.{get};
-ghost use Rattle.model.specs.State.{file_of, kind_of, names_of, pipe_of};
+ghost use Rattle.model.specs.State.{file_of, kind_of, names_of, pipe_of, target_of};
 ghost use Rattle.model.specs.Changes.{holders, process_of};
 ghost use Rattle.model.specs.Calls.{slot_of};
 ghost use Rattle.model.specs.Effects.{all_done};
@@ -16,7 +16,7 @@ ghost use Rattle.shadow.specs.Patches.{net_of};
 use crate::change::InodeChange;
 use crate::overlay::{
     bytes_over, count_over, front_of, front_over, given_over, is_empty_over, kind_over, len_over,
-    names_over, new_ends, pipe_len_of, pipe_len_over, small,
+    names_over, new_ends, pipe_len_of, pipe_len_over, small, target_over,
 };
 use crate::shadow::Shadow;
 use crate::stable::Stable;
@@ -24,7 +24,7 @@ use dirlist::Dir;
 use fdtable::FdTable;
 use freeing_laws::{left_is_tidy, pipes_keep_their_ends};
 use heap::Heap;
-use ids::{Bytes, DESCRIPTORS, Fd, Kind, Name, NameList, Num, PIPE_CAPACITY, Pid, Slot};
+use ids::{Bytes, DESCRIPTORS, Fd, Kind, Name, NameList, Num, PIPE_CAPACITY, Pid, Rights, Slot};
 use look::Look;
 use objects::{Description, FileData};
 use std::alloc::AllocError;
@@ -260,6 +260,28 @@ impl<'a> View<'a> {
         }
     }
 
+    // The target of a symbolic link, empty for what is none.
+    fn link_target(&self, link: Num) -> &[u8]
+        ensures { result.now ≡ target_of self.now.state link }
+    {
+        let stored = self.stable.target(link);
+        match change(self.shadow, link) {
+            Some(change) => target_over(&change.contents, stored),
+            None => stored,
+        }
+    }
+
+    // The permissions and the owner that were set of an inode, if any were.
+    fn rights_set(&self, inode: Num) -> Option<Rights>
+        ensures { result ≡ get self.now.state.rights inode }
+    {
+        let stored = self.stable.rights(inode);
+        match self.shadow {
+            Some(shadow) => shadow.patches.rights.over(inode, stored),
+            None => stored,
+        }
+    }
+
     // The descriptions of a pipe, to read and to write, which may be gone.
     fn pair(&self, pipe: Num) -> Option<(Num, Num)>
         ensures { IfSome result (λ ends.
@@ -397,6 +419,17 @@ impl<'a> Look for View<'a> {
     fn fit(&self, pipe: Num, count: usize) -> Result<u32, AllocError> {
         let room = PIPE_CAPACITY.saturating_sub(self.pipe_len(pipe));
         Ok(count.min(room) as u32)
+    }
+
+    fn target(&self, heap: Heap, link: Num) -> Result<Bytes, AllocError> {
+        Bytes::copy(heap, self.link_target(link))
+    }
+
+    fn rights(&self, inode: Num) -> Rights {
+        match self.rights_set(inode) {
+            Some(rights) => rights,
+            None => Rights::first(self.kind(inode)),
+        }
     }
 
     fn slot(&self, pid: Pid, fd: Fd) -> Option<Slot> {

@@ -6,7 +6,7 @@ use Rattle.dirlist.specs.Listing.{Listing}
 use Rattle.store.specs.Numbers.{Numbers}
 use Rattle.store.specs.Places.{altered, changed_file, changed_object, changed_opened, changed_pipe, pipe_in, pipe_of, with_pipe, file_in, file_of, holders_at, holders_of, less_holders, less_openings, listing_in, listing_of, more_holders, more_openings, opened_in, opened_of, openings_at, openings_of, with_file, with_listing, with_opened}
 use Rattle.store.specs.declared.Object.{Object}
-use Rattle.store.specs.declared.Object.TheVariants.{Directory, File, Pipe, Description, Nothing}
+use Rattle.store.specs.declared.Object.TheVariants.{Directory, File, Pipe, Fixed, Description, Nothing}
 use Rattle.store.specs.declared.OpenFile.{OpenFile}
 use Rattle.store.specs.declared.Opened.{Opened}
 use Rattle.store.specs.declared.OpenPipe.{OpenPipe}
@@ -19,6 +19,7 @@ pub file-by_listing : (f : Listing → Listing) (object : Object) → file_of (c
 file-by_listing f (Directory listing) = refl
 file-by_listing f (File file) = refl
 file-by_listing f (Pipe pipe) = refl
+file-by_listing f (Fixed fixed) = refl
 file-by_listing f (Description opened) = refl
 file-by_listing f Nothing = refl
 
@@ -26,6 +27,7 @@ pub opened-by_listing : (f : Listing → Listing) (object : Object) → opened_o
 opened-by_listing f (Directory listing) = refl
 opened-by_listing f (File file) = refl
 opened-by_listing f (Pipe pipe) = refl
+opened-by_listing f (Fixed fixed) = refl
 opened-by_listing f (Description opened) = refl
 opened-by_listing f Nothing = refl
 
@@ -33,6 +35,7 @@ pub listing-by_file : (f : OpenFile → OpenFile) (object : Object) → listing_
 listing-by_file f (Directory listing) = refl
 listing-by_file f (File file) = refl
 listing-by_file f (Pipe pipe) = refl
+listing-by_file f (Fixed fixed) = refl
 listing-by_file f (Description opened) = refl
 listing-by_file f Nothing = refl
 
@@ -40,6 +43,7 @@ pub opened-by_file : (f : OpenFile → OpenFile) (object : Object) → opened_of
 opened-by_file f (Directory listing) = refl
 opened-by_file f (File file) = refl
 opened-by_file f (Pipe pipe) = refl
+opened-by_file f (Fixed fixed) = refl
 opened-by_file f (Description opened) = refl
 opened-by_file f Nothing = refl
 
@@ -47,6 +51,7 @@ pub listing-by_opened : (f : Opened → Opened) (object : Object) → listing_of
 listing-by_opened f (Directory listing) = refl
 listing-by_opened f (File file) = refl
 listing-by_opened f (Pipe pipe) = refl
+listing-by_opened f (Fixed fixed) = refl
 listing-by_opened f (Description opened) = refl
 listing-by_opened f Nothing = refl
 
@@ -54,6 +59,7 @@ pub file-by_opened : (f : Opened → Opened) (object : Object) → file_of (chan
 file-by_opened f (Directory listing) = refl
 file-by_opened f (File file) = refl
 file-by_opened f (Pipe pipe) = refl
+file-by_opened f (Fixed fixed) = refl
 file-by_opened f (Description opened) = refl
 file-by_opened f Nothing = refl
 
@@ -61,6 +67,7 @@ pub pipe-by_listing : (f : Listing → Listing) (object : Object) → pipe_of (c
 pipe-by_listing f (Directory listing) = refl
 pipe-by_listing f (File file) = refl
 pipe-by_listing f (Pipe pipe) = refl
+pipe-by_listing f (Fixed fixed) = refl
 pipe-by_listing f (Description opened) = refl
 pipe-by_listing f Nothing = refl
 
@@ -68,6 +75,7 @@ pub pipe-by_file : (f : OpenFile → OpenFile) (object : Object) → pipe_of (ch
 pipe-by_file f (Directory listing) = refl
 pipe-by_file f (File file) = refl
 pipe-by_file f (Pipe pipe) = refl
+pipe-by_file f (Fixed fixed) = refl
 pipe-by_file f (Description opened) = refl
 pipe-by_file f Nothing = refl
 
@@ -75,6 +83,7 @@ pub pipe-by_opened : (f : Opened → Opened) (object : Object) → pipe_of (chan
 pipe-by_opened f (Directory listing) = refl
 pipe-by_opened f (File file) = refl
 pipe-by_opened f (Pipe pipe) = refl
+pipe-by_opened f (Fixed fixed) = refl
 pipe-by_opened f (Description opened) = refl
 pipe-by_opened f Nothing = refl
 
@@ -82,6 +91,7 @@ pub listing-by_pipe : (f : OpenPipe → OpenPipe) (object : Object) → listing_
 listing-by_pipe f (Directory listing) = refl
 listing-by_pipe f (File file) = refl
 listing-by_pipe f (Pipe pipe) = refl
+listing-by_pipe f (Fixed fixed) = refl
 listing-by_pipe f (Description opened) = refl
 listing-by_pipe f Nothing = refl
 
@@ -89,6 +99,7 @@ pub file-by_pipe : (f : OpenPipe → OpenPipe) (object : Object) → file_of (ch
 file-by_pipe f (Directory listing) = refl
 file-by_pipe f (File file) = refl
 file-by_pipe f (Pipe pipe) = refl
+file-by_pipe f (Fixed fixed) = refl
 file-by_pipe f (Description opened) = refl
 file-by_pipe f Nothing = refl
 
@@ -96,6 +107,7 @@ pub opened-by_pipe : (f : OpenPipe → OpenPipe) (object : Object) → opened_of
 opened-by_pipe f (Directory listing) = refl
 opened-by_pipe f (File file) = refl
 opened-by_pipe f (Pipe pipe) = refl
+opened-by_pipe f (Fixed fixed) = refl
 opened-by_pipe f (Description opened) = refl
 opened-by_pipe f Nothing = refl
 
@@ -146,6 +158,7 @@ module _ (s : Numbers) (n : ℕ) where
       by_object (Directory listing) = refl
       by_object (File file) = refl
       by_object (Pipe pipe) = refl
+      by_object (Fixed fixed) = refl
       by_object (Description opened) = refl
       by_object Nothing = refl
 
@@ -160,6 +173,7 @@ module _ (s : Numbers) (n : ℕ) where
       by_object (Directory listing) = refl
       by_object (File file) = refl
       by_object (Pipe pipe) = refl
+      by_object (Fixed fixed) = refl
       by_object (Description opened) = refl
       by_object Nothing = refl
 
@@ -174,6 +188,7 @@ module _ (s : Numbers) (n : ℕ) where
       by_object (Directory listing) = refl
       by_object (File file) = refl
       by_object (Pipe pipe) = refl
+      by_object (Fixed fixed) = refl
       by_object (Description opened) = refl
       by_object Nothing = refl
 

@@ -4,12 +4,13 @@ use Rattle.std.proofs.Common.{◌≡◌, ℕ, Bool, true, false, cond, Option, S
 use Rattle.std.specs.Prelude.{IsSome}
 use Rattle.std.specs.Option.{option_and_then}
 use Rattle.model.specs.FiniteMap.{FinMap, get, insert, remove, empty, get-empty}
+use Rattle.model.proofs.Laws.{removed_same}
 use Rattle.model.specs.State.{Inode, Description, Directory, File, Pipe, name_cmp, file_of_inode, pipe_of_inode}
 use Rattle.model.specs.Changes.{at_offset}
 use Rattle.dirlist.specs.Listing.{Listing}
 use Rattle.objects.specs.Pieces.{FileContent}
 use Rattle.store.specs.Numbers.{Numbers, coming, present, object_at, held, if_held, no_names, IsFirstRoot}
-use Rattle.store.specs.Places.{altered_by, altered, installed, hidden, is_over, is_over_by, has_room, file_of, listing_of, IsRoomy, changed_file, changed_object, changed_opened, changed_pipe, passed, pipe_of, with_pipe, with_bytes, with_file, with_listing, with_opened, moved_to, swept, lost, content_of, file_in}
+use Rattle.store.specs.Places.{altered_by, altered, installed, hidden, is_over, is_over_by, has_room, file_of, listing_of, IsRoomy, changed_file, changed_object, changed_opened, changed_pipe, passed, pipe_of, with_pipe, with_bytes, with_file, with_listing, with_opened, moved_to, swept, lost, unset, content_of, file_in}
 use Rattle.store.specs.Shown.{chosen, inodes, inode_of, inode_in, descriptions, description_of, description_in, shown_at, with_inode, with_value, with_names, with_names_by, with_offset, with_offset_by}
 use Rattle.store.specs.declared.OpenFile.{OpenFile}
 use Rattle.store.specs.declared.Opened.{Opened}
@@ -18,14 +19,14 @@ use Rattle.store.specs.declared.Place.{Place}
 use Rattle.store.specs.declared.Stage.{Stage}
 use Rattle.store.specs.declared.Stage.TheVariants.{Coming, Held, Removed}
 use Rattle.store.specs.declared.Object.{Object}
-use Rattle.store.specs.declared.Object.TheVariants.{Directory as Kept_directory, File as Kept_file, Pipe as Kept_pipe, Description as Kept_description, Nothing as Kept_nothing}
+use Rattle.store.specs.declared.Object.TheVariants.{Directory as Kept_directory, File as Kept_file, Pipe as Kept_pipe, Fixed as Kept_fixed, Description as Kept_description, Nothing as Kept_nothing}
 use Rattle.store.proofs.Chosen.{get-chosen, chosen-insert, chosen-insert-none, chosen-remove, chosen-empty, remove-absent, insert-held}
 
 abbrev pub with_place : Numbers → ℕ → Place → Numbers
 with_place s n place = record s { places = insert s.places n place }
 
 abbrev pub without_place : Numbers → ℕ → Numbers
-without_place s n = record s { places = remove s.places n }
+without_place s n = record s { places = remove s.places n; rights = remove s.rights n }
 
 -- a number that is not in use does not change
 pub altered-none : (f : Place → Place) (s : Numbers) (n : ℕ) → get s.places n ≡ None → altered f s n ≡ s
@@ -161,10 +162,29 @@ pub descriptions-swept : (s : Numbers) (n : ℕ) → descriptions (swept s n) �
 descriptions-swept s n = seen-swept description_in s n (over_hidden description_of)
 
 pub inodes-lost : (s : Numbers) (n : ℕ) → inodes (lost s n) ≡ remove (inodes s) n
-inodes-lost s n = inodes-swept (altered hidden s n) n ∙ inodes-hidden s n
+inodes-lost s n = inodes-swept (altered hidden (unset s n) n) n ∙ inodes-hidden (unset s n) n
 
 pub descriptions-lost : (s : Numbers) (n : ℕ) → descriptions (lost s n) ≡ remove (descriptions s) n
-descriptions-lost s n = descriptions-swept (altered hidden s n) n ∙ descriptions-hidden s n
+descriptions-lost s n = descriptions-swept (altered hidden (unset s n) n) n ∙ descriptions-hidden (unset s n) n
+
+-- the rights that were set of a number go with it
+pub rights-lost : (s : Numbers) (n : ℕ) → (lost s n).rights ≡ remove s.rights n
+rights-lost s n = by_test (is_over (get (altered hidden (unset s n) n).places n))
+  where
+    gone : get (remove s.rights n) n ≡ None
+    gone = removed_same s.rights n
+
+    by_test : (b : Bool) → (cond b (without_place (altered hidden (unset s n) n) n) (altered hidden (unset s n) n)).rights ≡ remove s.rights n
+    by_test true = remove-absent (remove s.rights n) n gone
+    by_test false = refl
+
+-- and where none were, a number that is given up takes none with it
+pub rights-swept : (s : Numbers) (n : ℕ) → (is_over (get s.places n) ≡ true → get s.rights n ≡ None) → (swept s n).rights ≡ s.rights
+rights-swept s n none = by_test (is_over (get s.places n)) refl
+  where
+    by_test : (b : Bool) → is_over (get s.places n) ≡ b → (cond b (without_place s n) s).rights ≡ s.rights
+    by_test true is = remove-absent s.rights n (none is)
+    by_test false is = refl
 
 pub inodes-first : (s : Numbers) → IsFirstRoot s → inodes s ≡ insert empty s.root (Directory empty)
 inodes-first s first = ap (λ places. inodes (record s { places = places })) first ∙ chosen-insert inode_in empty s.root (present (Kept_directory no_names)) (Directory empty) refl ∙ ap (λ (m : FinMap nat_cmp Inode). insert m s.root (Directory empty)) (chosen-empty inode_in)
@@ -183,6 +203,7 @@ module _ (f : Listing → Listing) (g : FinMap name_cmp ℕ → FinMap name_cmp 
       by_stage Held (Kept_directory listing) is = ap (λ m. insert (inodes s) n (Directory m)) (names listing)
       by_stage Held (Kept_file file) is = with_value-held (inodes s) n _ (get-inodes_by s n _ is)
       by_stage Held (Kept_pipe pipe) is = with_value-held (inodes s) n _ (get-inodes_by s n _ is)
+      by_stage Held (Kept_fixed fixed) is = with_value-held (inodes s) n _ (get-inodes_by s n _ is)
       by_stage Held (Kept_description opened) is = remove-absent (inodes s) n (get-inodes_by s n _ is)
       by_stage Held Kept_nothing is = remove-absent (inodes s) n (get-inodes_by s n _ is)
       by_stage Coming object is = remove-absent (inodes s) n (get-inodes_by s n _ is)
@@ -216,6 +237,7 @@ pub description-listed : (f : Listing → Listing) (object : Object) → descrip
 description-listed f (Kept_directory listing) = refl
 description-listed f (Kept_file file) = refl
 description-listed f (Kept_pipe pipe) = refl
+description-listed f (Kept_fixed fixed) = refl
 description-listed f (Kept_description opened) = refl
 description-listed f Kept_nothing = refl
 
@@ -223,6 +245,7 @@ pub description-filed : (f : OpenFile → OpenFile) (object : Object) → descri
 description-filed f (Kept_directory listing) = refl
 description-filed f (Kept_file file) = refl
 description-filed f (Kept_pipe pipe) = refl
+description-filed f (Kept_fixed fixed) = refl
 description-filed f (Kept_description opened) = refl
 description-filed f Kept_nothing = refl
 
@@ -230,6 +253,7 @@ pub description-piped : (f : OpenPipe → OpenPipe) (object : Object) → descri
 description-piped f (Kept_directory listing) = refl
 description-piped f (Kept_file file) = refl
 description-piped f (Kept_pipe pipe) = refl
+description-piped f (Kept_fixed fixed) = refl
 description-piped f (Kept_description opened) = refl
 description-piped f Kept_nothing = refl
 
@@ -250,6 +274,7 @@ pub inode-opened : (f : Opened → Opened) (object : Object) → inode_of (chang
 inode-opened f (Kept_directory listing) = refl
 inode-opened f (Kept_file file) = refl
 inode-opened f (Kept_pipe pipe) = refl
+inode-opened f (Kept_fixed fixed) = refl
 inode-opened f (Kept_description opened) = refl
 inode-opened f Kept_nothing = refl
 
@@ -261,6 +286,7 @@ pub inode-filed : (f : OpenFile → OpenFile) → ((file : OpenFile) → (f file
 inode-filed f same (Kept_directory listing) = refl
 inode-filed f same (Kept_file file) = ap (λ (content : FileContent). Some (File content.bytes)) (same file)
 inode-filed f same (Kept_pipe pipe) = refl
+inode-filed f same (Kept_fixed fixed) = refl
 inode-filed f same (Kept_description opened) = refl
 inode-filed f same Kept_nothing = refl
 
@@ -271,6 +297,7 @@ pub description-opened : (f : Opened → Opened) → ((opened : Opened) → (f o
 description-opened f same (Kept_directory listing) = refl
 description-opened f same (Kept_file file) = refl
 description-opened f same (Kept_pipe pipe) = refl
+description-opened f same (Kept_fixed fixed) = refl
 description-opened f same (Kept_description opened) = ap (λ (it : Description). Some it) (same opened)
 description-opened f same Kept_nothing = refl
 
@@ -284,6 +311,7 @@ inodes-swapped content s n = by_place (get s.places n) refl
     by_stage : (t : Stage) (object : Object) → get s.places n ≡ Some (record { stage = t; object = object }) → IsSome (option_and_then file_of (if_held t object)) → with_inode (inodes s) n (shown_at t (inode_of (changed_file (with_bytes content) object))) ≡ insert (inodes s) n (File content.bytes)
     by_stage Held (Kept_file file) is some = refl
     by_stage Held (Kept_pipe pipe) is some = absurd cc
+    by_stage Held (Kept_fixed fixed) is some = absurd cc
     by_stage Held (Kept_directory listing) is some = absurd cc
     by_stage Held (Kept_description opened) is some = absurd cc
     by_stage Held Kept_nothing is some = absurd cc
@@ -301,6 +329,7 @@ bytes-shown s n some = by_place (get s.places n) some ∙ ap file_of_inode (sym 
     by_stage : (t : Stage) (object : Object) → IsSome (option_and_then file_of (if_held t object)) → (content_of (file_of object)).bytes ≡ file_of_inode (shown_at t (inode_of object))
     by_stage Held (Kept_file file) some = refl
     by_stage Held (Kept_pipe pipe) some = absurd cc
+    by_stage Held (Kept_fixed fixed) some = absurd cc
     by_stage Held (Kept_directory listing) some = absurd cc
     by_stage Held (Kept_description opened) some = absurd cc
     by_stage Held Kept_nothing some = absurd cc
@@ -319,6 +348,7 @@ inodes-passed taken appended s n roomy = by_place (get s.places n) refl roomy
   where
     by_stage : (t : Stage) (object : Object) → IsRoomy taken appended (option_and_then pipe_of (if_held t object)) → with_inode (inodes s) n (shown_at t (inode_of (changed_pipe (passed taken appended) object))) ≡ insert (inodes s) n (Pipe (drop taken (pipe_of_inode (shown_at t (inode_of object))) ++ appended))
     by_stage Held (Kept_pipe pipe) some = refl
+    by_stage Held (Kept_fixed fixed) some = absurd some
     by_stage Held (Kept_directory listing) some = absurd some
     by_stage Held (Kept_file file) some = absurd some
     by_stage Held (Kept_description opened) some = absurd some
@@ -339,6 +369,7 @@ descriptions-moved offset s n = by_place (get s.places n) refl ∙ ap (λ (o : O
     by_stage Held (Kept_directory listing) is = remove-absent (descriptions s) n (get-descriptions_by s n _ is)
     by_stage Held (Kept_file file) is = remove-absent (descriptions s) n (get-descriptions_by s n _ is)
     by_stage Held (Kept_pipe pipe) is = remove-absent (descriptions s) n (get-descriptions_by s n _ is)
+    by_stage Held (Kept_fixed fixed) is = remove-absent (descriptions s) n (get-descriptions_by s n _ is)
     by_stage Held Kept_nothing is = remove-absent (descriptions s) n (get-descriptions_by s n _ is)
     by_stage Coming object is = remove-absent (descriptions s) n (get-descriptions_by s n _ is)
     by_stage Removed object is = remove-absent (descriptions s) n (get-descriptions_by s n _ is)

@@ -8,14 +8,15 @@ use Rattle.model.specs.FiniteMap.{FinMap, empty, get, len, entries-empty, len-em
 use Rattle.model.specs.State.{Inode, name_cmp, names_of_inode}
 use Rattle.model.proofs.Laws.{given_in}
 use Rattle.dirlist.specs.Listing.{Listing}
-use Rattle.store.specs.Headers.{AreCounted, IsSound, IsStaged, at_place, links_of, names_in, place_of, places_of}
+use Rattle.ids.specs.declared.rights.Rights.{Rights}
+use Rattle.store.specs.Headers.{AreCounted, IsSound, IsStaged, at_place, links_of, names_in, place_of, places_of, rights_of, with_rights}
 use Rattle.store.specs.Links.{links_in}
 use Rattle.store.specs.Numbers.{coming, present}
 use Rattle.store.specs.Places.{hidden, installed, changed_file, changed_object, changed_opened, changed_pipe, is_over, is_over_by, has_room, listing_of, with_file, with_listing, with_opened, with_pipe}
 use Rattle.store.specs.Shown.{chosen, inode_in, inode_of, shown_at, with_inode}
 use Rattle.store.specs.declared.Header.{Header}
 use Rattle.store.specs.declared.Object.{Object}
-use Rattle.store.specs.declared.Object.TheVariants.{Directory, File, Pipe, Description, Nothing}
+use Rattle.store.specs.declared.Object.TheVariants.{Directory, File, Pipe, Fixed, Description, Nothing}
 use Rattle.store.specs.declared.OpenFile.{OpenFile}
 use Rattle.store.specs.declared.Opened.{Opened}
 use Rattle.store.specs.declared.OpenPipe.{OpenPipe}
@@ -25,7 +26,7 @@ use Rattle.store.specs.declared.Stage.TheVariants.{Coming, Held, Removed}
 use Rattle.store.proofs.Changes.{inodes-set}
 use Rattle.store.proofs.Chosen.{chosen-empty, chosen-remove, get-chosen}
 use Rattle.store.proofs.Counts.{given_of, links-with_inode}
-use Rattle.store.proofs.Rows.{get-places, places-insert, places-remove, with_places}
+use Rattle.store.proofs.Rows.{get-places, numbers_of, places-insert, places-remove}
 
 -- the inodes of these headers
 abbrev pub inodes_of : Slab Header → FinMap nat_cmp Inode
@@ -42,7 +43,7 @@ pub get-inodes_of : (headers : Slab Header) (n : ℕ) → get (inodes_of headers
 get-inodes_of headers n = get-chosen inode_in (places_of headers) n ∙ ap (option_and_then inode_in) (get-places headers n)
 
 inodes_of-updated : (old new : Slab Header) (n : ℕ) (o : Option Header) → Updates old new n o → inodes_of new ≡ with_inode (inodes_of old) n (inode_at o)
-inodes_of-updated old new n (Some header) u = ap (chosen inode_in) (places-insert old new n header u) ∙ inodes-set (with_places 0 (places_of old)) n header.place
+inodes_of-updated old new n (Some header) u = ap (chosen inode_in) (places-insert old new n header u) ∙ inodes-set (numbers_of 0 old) n header.place
 inodes_of-updated old new n None u = ap (chosen inode_in) (places-remove old new n u) ∙ chosen-remove inode_in (places_of old) n
 
 module _ (old new : Slab Header) (n : ℕ) (o : Option Header) (u : Updates old new n o) where
@@ -102,12 +103,12 @@ module _ (f : Place → Place) (old new : Slab Header) (n : ℕ) where
           counted-updated old new n (Some (at_place f header)) (subst (λ (o : Option Header). Updates old new n (option_map (at_place f) o)) found u) was (λ h e. some_same IsSound (at_place f header) h e ok.0) (ap links_of (sym found)) (ok.1 ∙ ap names_at (sym found))
 
 pub kept-installed : (header : Header) → IsSound header → IsKept installed header
-kept-installed header sound = by_stage header.place.stage header.place.object header.links sound
+kept-installed header sound = by_stage header.place.stage header.place.object header.links header.rights sound
   where
-    by_stage : (t : Stage) (object : Object) (links : ℕ) → IsSound (record { place = record { stage = t; object = object }; links = links }) → IsKept installed (record { place = record { stage = t; object = object }; links = links })
-    by_stage Coming object links sound = (record { staged = tt; few = sound.few }, sound.staged)
-    by_stage Held object links sound = (sound, refl)
-    by_stage Removed object links sound = (sound, refl)
+    by_stage : (t : Stage) (object : Object) (links : ℕ) (rights : Option Rights) → IsSound (record { place = record { stage = t; object = object }; links = links; rights = rights }) → IsKept installed (record { place = record { stage = t; object = object }; links = links; rights = rights })
+    by_stage Coming object links rights sound = (record { staged = tt; few = sound.few }, sound.staged)
+    by_stage Held object links rights sound = (sound, refl)
+    by_stage Removed object links rights sound = (sound, refl)
 
 pub kept-hidden : (header : Header) → IsSound header → header.links ≡ 0 → names_at (Some header) ≡ empty → IsKept hidden header
 kept-hidden header sound unnamed bare = (record { staged = unnamed; few = sound.few }, sym bare)
@@ -129,6 +130,7 @@ kept-room f same = kept-names (changed_object f) by_object
     by_object (Directory listing) = same listing
     by_object (File file) = refl
     by_object (Pipe pipe) = refl
+    by_object (Fixed fixed) = refl
     by_object (Description opened) = refl
     by_object Nothing = refl
 
@@ -139,6 +141,7 @@ kept-file f = kept-names (changed_file f) by_object
     by_object (Directory listing) = refl
     by_object (File file) = refl
     by_object (Pipe pipe) = refl
+    by_object (Fixed fixed) = refl
     by_object (Description opened) = refl
     by_object Nothing = refl
 
@@ -149,6 +152,7 @@ kept-pipe f = kept-names (changed_pipe f) by_object
     by_object (Directory listing) = refl
     by_object (File file) = refl
     by_object (Pipe pipe) = refl
+    by_object (Fixed fixed) = refl
     by_object (Description opened) = refl
     by_object Nothing = refl
 
@@ -159,6 +163,7 @@ kept-opened f = kept-names (changed_opened f) by_object
     by_object (Directory listing) = refl
     by_object (File file) = refl
     by_object (Pipe pipe) = refl
+    by_object (Fixed fixed) = refl
     by_object (Description opened) = refl
     by_object Nothing = refl
 
@@ -168,6 +173,23 @@ few_of object e = let none : len (names_in object) ≡ 0 = ap len e ∙ len-empt
 -- an object without names comes where nothing was settled
 pub kept-settled : (object : Object) → names_in object ≡ empty → (header : Header) → header.place ≡ coming Nothing → IsKept (λ place. present object) header
 kept-settled object bare header is = (record { staged = tt; few = few_of object bare }, bare ∙ sym (ap (λ (place : Place). names_of_inode (inode_in place)) is))
+
+-- a change of rights
+pub counted-set : (rights : Option Rights) (old new : Slab Header) (n : ℕ) → AreCounted old → Updates old new n (option_map (with_rights rights) (slab.get old n)) → AreCounted new
+counted-set rights old new n was u = by_slot (slab.get old n) refl
+  where
+    updated : (o : Option Header) → slab.get old n ≡ o → Updates old new n (option_map (with_rights rights) o)
+    updated o found = subst (λ (o : Option Header). Updates old new n (option_map (with_rights rights) o)) found u
+
+    still : (header : Header) → IsSound header → IsSound (with_rights rights header)
+    still header sound = record { staged = sound.staged; few = sound.few }
+
+    by_slot : (o : Option Header) → slab.get old n ≡ o → AreCounted new
+    by_slot None found = counted-updated old new n None (updated None found) was (λ header e. absurd cc) (ap links_of (sym found)) (ap names_at (sym found))
+    by_slot (Some header) found =
+        counted-updated old new n (Some (with_rights rights header)) (updated (Some header) found) was
+        (λ h e. some_same IsSound (with_rights rights header) h e (still header (was.sound n header found)))
+        (ap links_of (sym found)) (ap names_at (sym found))
 
 pub counted-kept : (old new : Slab Header) (n : ℕ) → AreCounted old → Updates old new n (slab.get old n) → AreCounted new
 counted-kept old new n was u = counted-updated old new n (slab.get old n) u was (was.sound n) refl refl
@@ -187,13 +209,13 @@ module _ (old new : Slab Header) (n : ℕ) where
       by_slot (Some header) found = by_stage header.place.stage header.place.object header.links (was.sound n header found).staged (sym (ap (λ (o : Option Header). is_over (place_of o)) found) ∙ over)
 
   -- a new header
-  pub counted-reserved : (object : Object) → AreCounted old → Updates old new n (Some (record { place = coming object; links = 0 })) → slab.get old n ≡ None → names_in object ≡ empty → AreCounted new
-  counted-reserved object was u none bare = counted-updated old new n (Some (record { place = coming object; links = 0 })) u was
+  pub counted-reserved : (object : Object) → AreCounted old → Updates old new n (Some (record { place = coming object; links = 0; rights = None })) → slab.get old n ≡ None → names_in object ≡ empty → AreCounted new
+  counted-reserved object was u none bare = counted-updated old new n (Some (record { place = coming object; links = 0; rights = None })) u was
       (λ header e. some_same IsSound _ header e (record { staged = bare; few = few_of object bare }))
       (ap links_of (sym none)) (ap names_at (sym none))
 
-  pub counted-root : (object : Object) → AreCounted old → Updates old new n (Some (record { place = present object; links = 0 })) → slab.get old n ≡ None → names_in object ≡ empty → AreCounted new
-  counted-root object was u none bare = counted-updated old new n (Some (record { place = present object; links = 0 })) u was
+  pub counted-root : (object : Object) → AreCounted old → Updates old new n (Some (record { place = present object; links = 0; rights = None })) → slab.get old n ≡ None → names_in object ≡ empty → AreCounted new
+  counted-root object was u none bare = counted-updated old new n (Some (record { place = present object; links = 0; rights = None })) u was
       (λ header e. some_same IsSound _ header e (record { staged = tt; few = few_of object bare }))
       (ap links_of (sym none)) (bare ∙ ap names_at (sym none))
 
@@ -206,6 +228,9 @@ counted-alike old new same was = record {
 
 pub places-empty : (headers : Slab Header) → headers.slots ≡ [] → places_of headers ≡ empty
 places-empty headers none = ap (λ slots. places_of (record headers { slots = slots })) none
+
+pub rights-empty : (headers : Slab Header) → headers.slots ≡ [] → rights_of headers ≡ empty
+rights-empty headers none = ap (λ slots. rights_of (record headers { slots = slots })) none
 
 pub counted-empty : (headers : Slab Header) → headers.slots ≡ [] → AreCounted headers
 counted-empty headers none = record {

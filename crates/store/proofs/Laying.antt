@@ -17,7 +17,7 @@ use Rattle.store.specs.declared.Place.{Place}
 use Rattle.store.specs.declared.Stage.{Stage}
 use Rattle.store.specs.declared.Stage.TheVariants.{Coming, Held, Removed}
 use Rattle.store.specs.declared.Object.{Object}
-use Rattle.store.specs.declared.Object.TheVariants.{Directory, File, Pipe, Description, Nothing}
+use Rattle.store.specs.declared.Object.TheVariants.{Directory, File, Pipe, Fixed, Description, Nothing}
 use Rattle.store.proofs.Changes.{altered-none, altered-some, with_place}
 use Rattle.store.proofs.Chosen.{insert-held}
 use Rattle.store.proofs.Listings.{listing-changed, place-altered, place-other, swept-stays}
@@ -82,6 +82,7 @@ module _ (f g h : Listing → Listing) (s : Numbers) (n : ℕ) where
       by_object t (Directory listing) = ap (λ (listing : Listing). record { stage = t; object = Directory listing }) (same listing)
       by_object t (File file) = refl
       by_object t (Pipe pipe) = refl
+      by_object t (Fixed fixed) = refl
       by_object t (Description opened) = refl
       by_object t Nothing = refl
 
@@ -121,6 +122,7 @@ module _ (s : Numbers) (n : ℕ) where
       by_object t (Directory listing) = ap (λ (room : ℕ). record { stage = t; object = Directory (record listing { promised = room }) }) (all_left listing.promised)
       by_object t (File file) = refl
       by_object t (Pipe pipe) = refl
+      by_object t (Fixed fixed) = refl
       by_object t (Description opened) = refl
       by_object t Nothing = refl
 

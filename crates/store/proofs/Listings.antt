@@ -9,7 +9,7 @@ use Rattle.store.specs.Numbers.{Numbers}
 use Rattle.store.specs.Places.{altered_by, altered, changed_object, listing_of, listing_in, listing_at, with_listing, is_over, swept}
 use Rattle.store.specs.declared.Place.{Place}
 use Rattle.store.specs.declared.Object.{Object}
-use Rattle.store.specs.declared.Object.TheVariants.{Directory, File, Pipe, Description, Nothing}
+use Rattle.store.specs.declared.Object.TheVariants.{Directory, File, Pipe, Fixed, Description, Nothing}
 use Rattle.store.proofs.Changes.{without_place}
 
 module _ (f : Place → Place) (s : Numbers) (n : ℕ) where
@@ -36,6 +36,7 @@ module _ (f : Listing → Listing) (s : Numbers) (n : ℕ) where
       by_object (Directory listing) = refl
       by_object (File file) = refl
       by_object (Pipe pipe) = refl
+      by_object (Fixed fixed) = refl
       by_object (Description opened) = refl
       by_object Nothing = refl
 

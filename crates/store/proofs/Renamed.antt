@@ -13,6 +13,7 @@ use Rattle.model.specs.State.{Inode, Name, name_cmp, names_of_inode}
 use Rattle.model.proofs.Laws.{given_in}
 use Rattle.dirlist.specs.Listing.{Listing}
 use Rattle.dirlist.proofs.Laws.{name_total, name_exact}
+use Rattle.ids.specs.declared.rights.Rights.{Rights}
 use Rattle.store.specs.Headers.{AreCounted, GainsLink, IsSound, IsStaged, LosesLink, at_place, counted, given_by, links_of, names_in, place_of, places_of}
 use Rattle.store.specs.Links.{links_in}
 use Rattle.store.specs.Places.{changed_object, is_coming, is_coming_by, is_directory, shows_names, listing_in, listing_of, may_be_named, may_be_named_by, number_in, with_listing, with_name, without_name}
@@ -20,7 +21,7 @@ use Rattle.store.specs.Numbers.{if_held}
 use Rattle.store.specs.Shown.{chosen, chosen_entries, in_front, inode_in, inode_of, shown_at}
 use Rattle.store.specs.declared.Header.{Header}
 use Rattle.store.specs.declared.Object.{Object}
-use Rattle.store.specs.declared.Object.TheVariants.{Directory, File, Pipe, Description, Nothing}
+use Rattle.store.specs.declared.Object.TheVariants.{Directory, File, Pipe, Fixed, Description, Nothing}
 use Rattle.store.specs.declared.Place.{Place}
 use Rattle.store.specs.declared.Stage.{Stage}
 use Rattle.store.specs.declared.Stage.TheVariants.{Coming, Held, Removed}
@@ -41,6 +42,7 @@ given-named name n (Some header) q = by_object header.place.stage header.place.o
     by_object Held (Directory listing) = given-insert listing.names name n q
     by_object Held (File file) = refl
     by_object Held (Pipe pipe) = refl
+    by_object Held (Fixed fixed) = refl
     by_object Held (Description opened) = refl
     by_object Held Nothing = refl
     by_object Coming object = refl
@@ -54,6 +56,7 @@ given-unnamed name (Some header) q = by_object header.place.stage header.place.o
     by_object Held (Directory listing) = let less : given_in q (remove listing.names name) + given_by (get listing.names name) q ≡ given_in q listing.names = given-remove listing.names name q in omega arith
     by_object Held (File file) = refl
     by_object Held (Pipe pipe) = refl
+    by_object Held (Fixed fixed) = refl
     by_object Held (Description opened) = refl
     by_object Held Nothing = refl
     by_object Coming object = refl
@@ -72,6 +75,7 @@ former-counted headers was d name n is =
     by_object Held (Directory listing) e = given-some listing.names name n e
     by_object Held (File file) e = absurd cc
     by_object Held (Pipe pipe) e = absurd cc
+    by_object Held (Fixed fixed) e = absurd cc
     by_object Held (Description opened) e = absurd cc
     by_object Held Nothing e = absurd cc
     by_object Coming object e = absurd cc
@@ -129,8 +133,8 @@ module _ (old named less more : Slab Header) (d : ℕ) (o : Option Header) (form
           let none : given_by new q ≡ 0 = none_lost q (ap may_be_named (loses.places q ∙ ap place_of found) ∙ barred) in
           omega arith
 
-      by_place : (first : Header) → slab.get named q ≡ Some first → (place : Place) → first.place ≡ place → (links : ℕ) → links_of (slab.get more q) ≡ links → IsSound (record { place = place; links = links })
-      by_place first found place same links count =
+      by_place : (first : Header) → slab.get named q ≡ Some first → (place : Place) → first.place ≡ place → (links : ℕ) → links_of (slab.get more q) ≡ links → (rights : Option Rights) → IsSound (record { place = place; links = links; rights = rights })
+      by_place first found place same links count rights =
           let was_sound : IsSound first = sound q first found in
           let staged : IsStaged place.stage (names_in place.object) first.links = subst (λ (p : Place). IsStaged p.stage (names_in p.object) first.links) same was_sound.staged in
           record {
@@ -140,16 +144,16 @@ module _ (old named less more : Slab Header) (d : ℕ) (o : Option Header) (form
 
       by_former : (o : Option Header) → slab.get named q ≡ o → IsSound header
       by_former None found = let bad : Some header.place ≡ None = sym (ap place_of is) ∙ same_place q ∙ ap place_of found in absurd cc
-      by_former (Some first) found = some_same (λ (place : Place). first.place ≡ place → IsSound (record { place = place; links = header.links })) first.place header.place (sym (ap place_of found) ∙ sym (same_place q) ∙ ap place_of is) (λ e. by_place first found first.place e header.links (ap links_of is)) (some_same (λ place. first.place ≡ place) first.place header.place (sym (ap place_of found) ∙ sym (same_place q) ∙ ap place_of is) refl)
+      by_former (Some first) found = some_same (λ (place : Place). first.place ≡ place → IsSound (record { place = place; links = header.links; rights = header.rights })) first.place header.place (sym (ap place_of found) ∙ sym (same_place q) ∙ ap place_of is) (λ e. by_place first found first.place e header.links (ap links_of is) header.rights) (some_same (λ place. first.place ≡ place) first.place header.place (sym (ap place_of found) ∙ sym (same_place q) ∙ ap place_of is) refl)
 
   pub counted-renamed : AreCounted more
   counted-renamed = record { counts = counts; sound = still_sound }
 
 pub gains-none : (headers : Slab Header) → GainsLink headers headers None
-gains-none headers = record { places = λ q. refl; links = λ q. omega arith }
+gains-none headers = record { places = λ q. refl; rights = λ q. refl; links = λ q. omega arith }
 
 pub loses-none : (headers : Slab Header) (former : Option ℕ) → former ≡ None → LosesLink headers headers former
-loses-none headers former none = record { places = λ q. refl; links = λ q. ap (λ o. links_of (slab.get headers q) + given_by o q) none ∙ (let same : links_of (slab.get headers q) + 0 ≡ links_of (slab.get headers q) = omega arith in same) }
+loses-none headers former none = record { places = λ q. refl; rights = λ q. refl; links = λ q. ap (λ o. links_of (slab.get headers q) + given_by o q) none ∙ (let same : links_of (slab.get headers q) + 0 ≡ links_of (slab.get headers q) = omega arith in same) }
 
 pub counted-none : (place : Option Place) (target : Option ℕ) → target ≡ None → counted place target ≡ None
 counted-none place target none = ap (counted place) none ∙ by_test (shows_names place)
@@ -171,40 +175,42 @@ remove-empty name = same_map name_total name_exact _ _ (λ q. get-remove name_to
     none_in false = refl
 
 pub sound-unnamed : (name : Name) (header : Header) → IsSound header → IsSound (at_place (with_listing (without_name name)) header)
-sound-unnamed name header sound = by_object header.place.stage header.place.object header.links sound
+sound-unnamed name header sound = by_object header.place.stage header.place.object header.links header.rights sound
   where
     staged : (t : Stage) (names : FinMap name_cmp ℕ) (links : ℕ) → IsStaged t names links → IsStaged t (remove names name) links
     staged Coming names links e = ap (λ (names : FinMap name_cmp ℕ). remove names name) e ∙ remove-empty name
     staged Held names links e = tt
     staged Removed names links e = e
 
-    by_object : (t : Stage) (object : Object) (links : ℕ) → IsSound (record { place = record { stage = t; object = object }; links = links }) → IsSound (record { place = record { stage = t; object = changed_object (without_name name) object }; links = links })
-    by_object t (Directory listing) links sound = record {
+    by_object : (t : Stage) (object : Object) (links : ℕ) (rights : Option Rights) → IsSound (record { place = record { stage = t; object = object }; links = links; rights = rights }) → IsSound (record { place = record { stage = t; object = changed_object (without_name name) object }; links = links; rights = rights })
+    by_object t (Directory listing) links rights sound = record {
       staged = staged t listing.names links sound.staged;
       few = (let less : cond (contains_key listing.names name) 1 0 + len (remove listing.names name) ≡ len listing.names = len_before_remove name_total listing.names name in let few : len listing.names < 2 ^ 64 = sound.few in omega arith);
     }
-    by_object t (File file) links sound = sound
-    by_object t (Pipe pipe) links sound = sound
-    by_object t (Description opened) links sound = sound
-    by_object t Nothing links sound = sound
+    by_object t (File file) links rights sound = sound
+    by_object t (Pipe pipe) links rights sound = sound
+    by_object t (Fixed fixed) links rights sound = sound
+    by_object t (Description opened) links rights sound = sound
+    by_object t Nothing links rights sound = sound
 
 pub sound-named : (name : Name) (n : ℕ) (header : Header) → IsSound header → is_coming (Some header.place) ≡ false → ((listing : Listing) → listing_in (Some (with_listing (with_name name n) header.place)) ≡ Some listing → len listing.names < 2 ^ 64) → IsSound (at_place (with_listing (with_name name n)) header)
-sound-named name n header sound = by_object header.place.stage header.place.object header.links sound
+sound-named name n header sound = by_object header.place.stage header.place.object header.links header.rights sound
   where
     staged : (t : Stage) (names more : FinMap name_cmp ℕ) (links : ℕ) → is_coming_by t ≡ false → IsStaged t names links → IsStaged t more links
     staged Coming names more links away e = absurd cc
     staged Held names more links away e = tt
     staged Removed names more links away e = e
 
-    by_object : (t : Stage) (object : Object) (links : ℕ) → IsSound (record { place = record { stage = t; object = object }; links = links }) → is_coming_by t ≡ false → ((listing : Listing) → listing_of (changed_object (with_name name n) object) ≡ Some listing → len listing.names < 2 ^ 64) → IsSound (record { place = record { stage = t; object = changed_object (with_name name n) object }; links = links })
-    by_object t (Directory listing) links sound away few = record {
+    by_object : (t : Stage) (object : Object) (links : ℕ) (rights : Option Rights) → IsSound (record { place = record { stage = t; object = object }; links = links; rights = rights }) → is_coming_by t ≡ false → ((listing : Listing) → listing_of (changed_object (with_name name n) object) ≡ Some listing → len listing.names < 2 ^ 64) → IsSound (record { place = record { stage = t; object = changed_object (with_name name n) object }; links = links; rights = rights })
+    by_object t (Directory listing) links rights sound away few = record {
       staged = staged t listing.names (insert listing.names name n) links away sound.staged;
       few = few (with_name name n listing) refl;
     }
-    by_object t (File file) links sound away few = sound
-    by_object t (Pipe pipe) links sound away few = sound
-    by_object t (Description opened) links sound away few = sound
-    by_object t Nothing links sound away few = sound
+    by_object t (File file) links rights sound away few = sound
+    by_object t (Pipe pipe) links rights sound away few = sound
+    by_object t (Fixed fixed) links rights sound away few = sound
+    by_object t (Description opened) links rights sound away few = sound
+    by_object t Nothing links rights sound away few = sound
 
 -- a count is less than 2^128
 chosen-le : (es : List (ℕ × Place)) → length (chosen_entries inode_in es) ≤ length es
@@ -287,6 +293,7 @@ module _ (f : Listing → Listing) (old named : Slab Header) (d : ℕ) (u : Upda
       by_object Held (Directory listing) = refl
       by_object Held (File file) = refl
       by_object Held (Pipe pipe) = refl
+      by_object Held (Fixed fixed) = refl
       by_object Held (Description opened) = refl
       by_object Held Nothing = refl
       by_object Coming object = refl

@@ -14,7 +14,7 @@ use Rattle.store.specs.declared.Place.{Place}
 use Rattle.store.specs.declared.Stage.{Stage}
 use Rattle.store.specs.declared.Stage.TheVariants.{Coming, Held, Removed}
 use Rattle.store.specs.declared.Object.{Object}
-use Rattle.store.specs.declared.Object.TheVariants.{Directory, File, Pipe, Description, Nothing}
+use Rattle.store.specs.declared.Object.TheVariants.{Directory, File, Pipe, Fixed, Description, Nothing}
 use Rattle.store.specs.declared.OpenFile.{OpenFile}
 use Rattle.store.specs.declared.Opened.{Opened}
 use Rattle.store.specs.declared.OpenPipe.{OpenPipe}
@@ -69,6 +69,7 @@ abbrev pub changed_object : (Listing → Listing) → Object → Object
 changed_object f (Directory listing) = Directory (f listing)
 changed_object f (File file) = File file
 changed_object f (Pipe pipe) = Pipe pipe
+changed_object f (Fixed fixed) = Fixed fixed
 changed_object f (Description opened) = Description opened
 changed_object f Nothing = Nothing
 
@@ -81,6 +82,7 @@ abbrev pub changed_file : (OpenFile → OpenFile) → Object → Object
 changed_file f (File file) = File (f file)
 changed_file f (Directory listing) = Directory listing
 changed_file f (Pipe pipe) = Pipe pipe
+changed_file f (Fixed fixed) = Fixed fixed
 changed_file f (Description opened) = Description opened
 changed_file f Nothing = Nothing
 
@@ -89,10 +91,12 @@ changed_opened f (Description opened) = Description (f opened)
 changed_opened f (Directory listing) = Directory listing
 changed_opened f (File file) = File file
 changed_opened f (Pipe pipe) = Pipe pipe
+changed_opened f (Fixed fixed) = Fixed fixed
 changed_opened f Nothing = Nothing
 
 abbrev pub changed_pipe : (OpenPipe → OpenPipe) → Object → Object
 changed_pipe f (Pipe pipe) = Pipe (f pipe)
+changed_pipe f (Fixed fixed) = Fixed fixed
 changed_pipe f (Directory listing) = Directory listing
 changed_pipe f (File file) = File file
 changed_pipe f (Description opened) = Description opened
@@ -251,13 +255,20 @@ abbrev pub is_over : Option Place → Bool
 is_over (Some place) = is_over_by place.stage (has_room (listing_of place.object))
 is_over None = false
 
+-- no rights are set of a number any more
+abbrev pub unset : Numbers → ℕ → Numbers
+unset s n = record s { rights = remove s.rights n }
+
 -- the number of a removed object with no promised room is given up
 abbrev pub swept : Numbers → ℕ → Numbers
-swept s n = if is_over (get s.places n) then record s { places = remove s.places n } else s
+swept s n =
+    if is_over (get s.places n)
+    then record s { places = remove s.places n; rights = remove s.rights n }
+    else s
 
--- an object is removed
+-- an object is removed, with its rights
 abbrev pub lost : Numbers → ℕ → Numbers
-lost s n = swept (altered hidden s n) n
+lost s n = swept (altered hidden (unset s n) n) n
 
 -- one promise is given up
 abbrev pub released : Numbers → ℕ → Numbers

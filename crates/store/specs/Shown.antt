@@ -3,7 +3,7 @@
 use Rattle.std.specs.Prelude.{ℕ, List, [], ◌∷◌, Option, Some, None}
 use Rattle.std.specs.Ordering.{nat_cmp}
 use Rattle.model.specs.FiniteMap.{FinMap, entries, get, insert, remove, from_entries}
-use Rattle.model.specs.State.{Inode, Directory, File, Pipe, Description, name_cmp}
+use Rattle.model.specs.State.{Inode, Directory, File, Pipe, Fixed, Description, name_cmp}
 use Rattle.model.specs.Changes.{at_offset}
 use Rattle.store.specs.Numbers.{Numbers}
 use Rattle.store.specs.declared.Place.{Place}
@@ -12,12 +12,14 @@ use Rattle.store.specs.declared.Stage.TheVariants.{Coming, Held, Removed}
 use Rattle.store.specs.declared.Object.{Object}
 use Rattle.store.specs.declared.Object.TheVariants.{Directory as Kept_directory}
 use Rattle.store.specs.declared.Object.TheVariants.{File as Kept_file, Pipe as Kept_pipe}
+use Rattle.store.specs.declared.Object.TheVariants.{Fixed as Kept_fixed}
 use Rattle.store.specs.declared.Object.TheVariants.{Description as Kept_description}
 
 abbrev pub inode_of : Object → Option Inode
 inode_of (Kept_directory listing) = Some (Directory listing.names)
 inode_of (Kept_file file) = Some (File file.bytes.bytes)
 inode_of (Kept_pipe pipe) = Some (Pipe pipe.bytes)
+inode_of (Kept_fixed fixed) = Some (Fixed fixed)
 inode_of _ = None
 
 abbrev pub description_of : Object → Option Description

@@ -55,6 +55,7 @@ fn swap_file_in(object: &mut Object, bytes: FileData) -> FileData
     match object {
         Object::File(file) => replace(&mut file.bytes, bytes),
         Object::Pipe(_) => unreachable!(),
+        Object::Fixed(_) => unreachable!(),
         Object::Directory(_) => unreachable!(),
         Object::Description(_) => unreachable!(),
         Object::Nothing => unreachable!(),
@@ -96,6 +97,7 @@ fn write_file_in(object: &mut Object, offset: usize, bytes: &[u8]) -> Result<(),
     match object {
         Object::File(file) => file.bytes.write_at(offset, bytes),
         Object::Pipe(_) => unreachable!(),
+        Object::Fixed(_) => unreachable!(),
         Object::Directory(_) => unreachable!(),
         Object::Description(_) => unreachable!(),
         Object::Nothing => unreachable!(),
@@ -123,6 +125,7 @@ fn change_pipe_in(object: &mut Object, taken: usize, appended: &[u8])
             pipe.bytes.skip(taken);
             pipe.bytes.put(appended);
         }
+        Object::Fixed(_) => unreachable!(),
         Object::Directory(_) => unreachable!(),
         Object::File(_) => unreachable!(),
         Object::Description(_) => unreachable!(),
@@ -164,6 +167,7 @@ fn openings_in(object: &Object) -> u128
     match object {
         Object::File(file) => file.openings,
         Object::Pipe(_) => 0,
+        Object::Fixed(_) => 0,
         Object::Directory(_) => 0,
         Object::Description(_) => 0,
         Object::Nothing => 0,
@@ -226,6 +230,7 @@ fn holders_in(object: &Object) -> u128
         Object::Directory(_) => 0,
         Object::File(_) => 0,
         Object::Pipe(_) => 0,
+        Object::Fixed(_) => 0,
         Object::Nothing => 0,
     }
 }

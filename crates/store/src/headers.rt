@@ -1,5 +1,5 @@
-//! The header of one number, and changes of it: its place, and the count of the names that give it.
-//! A number that is not in use does not change.
+//! The header of one number, and changes of it: its place, the count of the names that give it, and
+//! the rights that were set of it. A number that is not in use does not change.
 ghost use Rattle.std.specs.Prelude.{◌≡◌, ◌<◌, ◌+◌, ◌^◌, ℕ, OnOk, OnErr, Some, None, true};
 ghost use Rattle.std.specs.Prelude.{option_copied, option_map};
 ghost use Rattle.model.specs.FiniteMap as map;
@@ -11,12 +11,12 @@ ghost use Rattle.store.specs.Places.{shows_names, listing_of, listing_in, change
 ghost use Rattle.store.specs.Places.{with_listing};
 ghost use Rattle.store.specs.Places.{more_room, less_room, number_in, with_name, without_name};
 ghost use Rattle.store.specs.Headers.{at_place, count_at, place_at, more_links, less_links};
-ghost use Rattle.store.specs.Headers.{counted, GainsLink, LosesLink};
+ghost use Rattle.store.specs.Headers.{counted, rights_at, with_rights, GainsLink, LosesLink};
 
 use crate::{Header, Object, Place, Stage};
 use dirlist::Dir;
 use heap::Heap;
-use ids::{Name, Num};
+use ids::{Name, Num, Rights};
 use slab::Slab;
 use std::alloc::AllocError;
 
@@ -48,6 +48,7 @@ pub fn shows_names_at(headers: &Slab<Header, Heap>, key: usize) -> bool
         Some(Object::Directory(_)) => true,
         Some(Object::File(_)) => false,
         Some(Object::Pipe(_)) => false,
+        Some(Object::Fixed(_)) => false,
         Some(Object::Description(_)) => false,
         Some(Object::Nothing) => false,
         None => false,
@@ -71,6 +72,7 @@ fn is_promised_in(object: &Object) -> bool
         Object::Directory(dir) => dir.is_promised(),
         Object::File(_) => false,
         Object::Pipe(_) => false,
+        Object::Fixed(_) => false,
         Object::Description(_) => false,
         Object::Nothing => false,
     }
@@ -145,6 +147,7 @@ fn promise_in(object: &mut Object) -> Result<(), AllocError>
         Object::Directory(dir) => dir.promise(),
         Object::File(_) => Ok(()),
         Object::Pipe(_) => Ok(()),
+        Object::Fixed(_) => Ok(()),
         Object::Description(_) => Ok(()),
         Object::Nothing => Ok(()),
     }
@@ -167,6 +170,7 @@ fn release_in(object: &mut Object)
         Object::Directory(dir) => release_one(dir),
         Object::File(_) => (),
         Object::Pipe(_) => (),
+        Object::Fixed(_) => (),
         Object::Description(_) => (),
         Object::Nothing => (),
     }
@@ -213,6 +217,7 @@ fn add_name_in(object: &mut Object, name: Name, num: Num) -> Option<Num>
         Object::Directory(dir) => put_name(dir, name, num),
         Object::File(_) => None,
         Object::Pipe(_) => None,
+        Object::Fixed(_) => None,
         Object::Description(_) => None,
         Object::Nothing => None,
     }
@@ -252,8 +257,29 @@ fn remove_name_in(object: &mut Object, name: &Name) -> Option<Num>
         Object::Directory(dir) => dir.remove(name),
         Object::File(_) => None,
         Object::Pipe(_) => None,
+        Object::Fixed(_) => None,
         Object::Description(_) => None,
         Object::Nothing => None,
+    }
+}
+
+/// The rights that were set of a number; none where it is not in use.
+pub fn rights_at(headers: &Slab<Header, Heap>, key: usize) -> Option<Rights>
+    ensures { result ≡ rights_at headers.now key }
+{
+    match headers.get(key) {
+        Some(header) => header.rights,
+        None => None,
+    }
+}
+
+/// These rights are set of a number from now on, or none.
+pub fn set_rights_at(headers: &mut Slab<Header, Heap>, key: usize, rights: Option<Rights>)
+    ensures { Updates headers.old headers.new key
+        (option_map (with_rights rights) (get headers.old key)) }
+{
+    if let Some(header) = headers.get_mut(key) {
+        header.rights = rights;
     }
 }
 

@@ -1,13 +1,14 @@
 //! Objects under their numbers, and objects to come, which are not shown before they are installed.
 #![tactic(auto)]
 
-ghost use Rattle.std.specs.Prelude.{◌≡◌, ◌<◌, ◌≤◌, ◌+◌, ◌++◌, ◌^◌, drop, length, Some, None};
+ghost use Rattle.std.specs.Prelude.{◌≡◌, ◌≢◌, ◌<◌, ◌≤◌, ◌+◌, ◌++◌, ◌^◌, drop, length, Some, None};
 ghost use Rattle.std.specs.Prelude.{IfOk, OnOk, OnErr};
 ghost use Rattle.ids.specs.declared.limits.TheConstants.{LARGEST_FILE};
 ghost use Rattle.model.specs.Changes.{written};
 ghost use Rattle.std.specs.Prelude.{option_and_then, option_copied, option_map, IsSome};
 ghost use Rattle.model.specs.FiniteMap as map;
 ghost use Rattle.model.specs.State.{file_of_inode, kind, mapped, names_of_inode, pipe_of_inode};
+ghost use Rattle.model.specs.State.{target_of_inode};
 ghost use Rattle.model.specs.State.{Directory as A_directory, File as A_file, Pipe as A_pipe};
 ghost use Rattle.store.specs.Numbers.{coming, object_at, present, IsFirstRoot};
 ghost use Rattle.store.specs.Places.{altered, installed, lost, swept, listing_of, file_in, file_of};
@@ -26,7 +27,7 @@ mod naming;
 
 use dirlist::Dir;
 use heap::Heap;
-use ids::{Kind, Num};
+use ids::{Fixed, Kind, Num, Rights};
 use objects::{Description, FileData, PipeData};
 use slab::Slab;
 use std::alloc::AllocError;
@@ -94,9 +95,11 @@ pub enum Object {
     File(OpenFile),
     /// A pipe.
     Pipe(OpenPipe),
+    /// A symbolic link, a FIFO or a socket.
+    Fixed(Fixed),
     /// An open file description.
     Description(Opened),
-    /// Not settled yet: a file, a pipe or a description is to come.
+    /// Not settled yet: an object that is no directory is to come.
     Nothing,
 }
 
@@ -106,6 +109,7 @@ impl Drop for Object {
             Object::Directory(_) => {}
             Object::File(_) => {}
             Object::Pipe(_) => {}
+            Object::Fixed(_) => {}
             Object::Description(_) => {}
             Object::Nothing => {}
         }
@@ -140,18 +144,23 @@ impl Drop for Place {
     }
 }
 
-/// What is kept of a number that is in use: its place, and how many names of shown directories give
-/// the number.
+/// What is kept of a number that is in use: its place, how many names of shown directories give the
+/// number, and the permissions and the owner of an inode, where they were set.
 ///
 /// A `usize` can count the directories, and the names of each. So a `u128` can count all names.
 struct Header {
     place: Place,
     links: u128,
+    rights: Option<Rights>,
 }
 
 impl Drop for Header {
     fn drop(self) {
-        let Header { place: _, links: _ } = self;
+        let Header {
+            place: _,
+            links: _,
+            rights: _,
+        } = self;
     }
 }
 
@@ -174,7 +183,7 @@ impl Drop for Store {
 
 impl Model for Store {
     ghost use Rattle.store.specs.contracts.Place as place;
-    ghost use Rattle.store.specs.Headers.{AreCounted, places_of};
+    ghost use Rattle.store.specs.Headers.{AreCounted, places_of, rights_of};
     ghost use Rattle.store.specs.Numbers.{Numbers, numbers_code};
 
     ghost Value = { Numbers };
@@ -183,6 +192,7 @@ impl Model for Store {
 
     ghost view = { λ s. record {
       places = places_of s.headers;
+      rights = rights_of s.headers;
       root = s.root;
     } };
 
@@ -197,6 +207,7 @@ impl Store {
         ensures shown { IfOk result
             (λ s. inodes s ≡ map.insert map.empty s.root (A_directory map.empty)) }
         ensures open { IfOk result (λ s. descriptions s ≡ map.empty) }
+        ensures unset { IfOk result (λ s. s.rights ≡ map.empty) }
     {
         let mut headers = Slab::new(heap);
         let root = headers.insert(Header {
@@ -205,6 +216,7 @@ impl Store {
                 object: Object::Directory(Dir::new(heap)),
             },
             links: 0,
+            rights: None,
         })?;
         Ok(Store {
             headers,
@@ -230,6 +242,7 @@ impl Store {
         ensures ready { IfOk result (λ num. map.get self.new.places num ≡ Some (coming object)) }
         ensures shown { OnOk result (inodes self.new ≡ inodes self.old) }
         ensures open { OnOk result (descriptions self.new ≡ descriptions self.old) }
+        ensures rights { OnOk result (self.new.rights ≡ self.old.rights) }
         ensures err { OnErr result (self.new ≡ self.old) }
     {
         let num = self.headers.insert(Header {
@@ -238,6 +251,7 @@ impl Store {
                 object,
             },
             links: 0,
+            rights: None,
         })?;
         Ok(Num(num))
     }
@@ -272,9 +286,9 @@ impl Store {
         contents::settle_at(&mut self.headers, num.0, object);
     }
 
-    /// The object of a number is shown no more. The number is given up with it, unless room in it
-    /// is still promised: then it goes with the last promise. Where the number is not in use,
-    /// nothing changes. It takes no memory.
+    /// The object of a number is shown no more, and the rights that were set of it go. The number is
+    /// given up with it, unless room in it is still promised: then it goes with the last promise.
+    /// Where the number is not in use, nothing changes. It takes no memory.
     ///
     /// No name gives the number, and a directory has no names.
     pub fn lose(&mut self, num: Num)
@@ -283,7 +297,9 @@ impl Store {
         ensures lost { self.new ≡ lost self.old num }
         ensures shown { inodes self.new ≡ map.remove (inodes self.old) num }
         ensures open { descriptions self.new ≡ map.remove (descriptions self.old) num }
+        ensures unset { self.new.rights ≡ map.remove self.old.rights num }
     {
+        headers::set_rights_at(&mut self.headers, num.0, None);
         headers::hide_at(&mut self.headers, num.0);
         self.sweep(num);
     }
@@ -317,6 +333,7 @@ impl Store {
             Some(Object::Directory(dir)) => Some(dir),
             Some(Object::File(_)) => None,
             Some(Object::Pipe(_)) => None,
+            Some(Object::Fixed(_)) => None,
             Some(Object::Description(_)) => None,
             Some(Object::Nothing) => None,
             None => None,
@@ -333,6 +350,7 @@ impl Store {
         match self.get(num) {
             Some(Object::File(file)) => Some(&file.bytes),
             Some(Object::Pipe(_)) => None,
+            Some(Object::Fixed(_)) => None,
             Some(Object::Directory(_)) => None,
             Some(Object::Description(_)) => None,
             Some(Object::Nothing) => None,
@@ -348,11 +366,27 @@ impl Store {
     {
         match self.get(num) {
             Some(Object::Pipe(pipe)) => Some(pipe),
+            Some(Object::Fixed(_)) => None,
             Some(Object::Directory(_)) => None,
             Some(Object::File(_)) => None,
             Some(Object::Description(_)) => None,
             Some(Object::Nothing) => None,
             None => None,
+        }
+    }
+
+    /// The target of the symbolic link of a number, where one is shown; else no bytes.
+    pub fn target(&self, num: Num) -> &[u8]
+        ensures { result.now ≡ target_of_inode (map.get (inodes self.now) num) }
+    {
+        match self.get(num) {
+            Some(Object::Fixed(fixed)) => fixed.target(),
+            Some(Object::Directory(_)) => &[],
+            Some(Object::File(_)) => &[],
+            Some(Object::Pipe(_)) => &[],
+            Some(Object::Description(_)) => &[],
+            Some(Object::Nothing) => &[],
+            None => &[],
         }
     }
 
@@ -365,6 +399,7 @@ impl Store {
             Some(Object::Directory(_)) => None,
             Some(Object::File(_)) => None,
             Some(Object::Pipe(_)) => None,
+            Some(Object::Fixed(_)) => None,
             Some(Object::Nothing) => None,
             None => None,
         }
@@ -378,10 +413,28 @@ impl Store {
             Some(Object::Directory(_)) => Some(Kind::Dir),
             Some(Object::File(_)) => Some(Kind::File),
             Some(Object::Pipe(_)) => Some(Kind::Pipe),
+            Some(Object::Fixed(fixed)) => Some(fixed.kind()),
             Some(Object::Description(_)) => None,
             Some(Object::Nothing) => None,
             None => None,
         }
+    }
+
+    /// The permissions and the owner of a number's inode, where they were set. It takes no memory.
+    pub fn rights(&self, num: Num) -> Option<Rights>
+        ensures { result ≡ map.get self.now.rights num }
+    {
+        headers::rights_at(&self.headers, num.0)
+    }
+
+    /// Sets the permissions and the owner of an inode, which is shown. It takes no memory.
+    pub fn set_rights(&mut self, num: Num, rights: Rights)
+        requires { map.get (inodes self.old) num ≢ None }
+        ensures { self.new ≡ record self.old {
+          rights = map.insert self.old.rights num rights;
+        } }
+    {
+        headers::set_rights_at(&mut self.headers, num.0, Some(rights));
     }
 
     /// Puts other bytes in the place of a file's, which are answered. The file is shown. It takes

@@ -59,6 +59,7 @@ impl Store {
         ensures err { OnErr result (self.new ≡ self.old) }
         ensures shown { inodes self.new ≡ inodes self.old }
         ensures open { descriptions self.new ≡ descriptions self.old }
+        ensures rights { self.new.rights ≡ self.old.rights }
     {
         headers::promise_at(&mut self.headers, dir.0)
     }

@@ -3,4 +3,5 @@ pub mod Line
 pub mod Operation
 pub mod Printer
 pub mod Reply
+pub mod Rights
 pub mod Text

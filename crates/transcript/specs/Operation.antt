@@ -3,11 +3,14 @@ use Rattle.std.specs.Prelude.{ℕ, List, ◌++◌, codes, decimal, if◌then◌e
 use Rattle.std.specs.Fmt.{signed_decimal}
 use Rattle.ids.specs.declared.call.Whence.{Whence}
 use Rattle.ids.specs.declared.call.Whence.TheVariants as whence
+use Rattle.ids.specs.declared.fixed.Special.{Special}
+use Rattle.ids.specs.declared.fixed.Special.TheVariants as special
 use Rattle.ids.specs.declared.call.Call.{Call}
 use Rattle.ids.specs.declared.call.Call.TheVariants as call
 use Rattle.ids.specs.declared.call.Op.{Op}
 use Rattle.ids.specs.declared.call.Op.TheVariants as op
 use Rattle.transcript.specs.Flags.{begin_flags_text, flags_text}
+use Rattle.transcript.specs.Rights.{new_owner_text, octal}
 use Rattle.transcript.specs.Text.{text_of}
 
 abbrev pub whence_text : Whence → List ℕ
@@ -15,7 +18,12 @@ whence_text whence.Set = codes "SET"
 whence_text whence.Cur = codes "CUR"
 whence_text whence.End = codes "END"
 
--- an operation on a path, on two, on a descriptor, and on a descriptor and a number
+abbrev pub special_text : Special → List ℕ
+special_text special.Fifo = codes "fifo"
+special_text special.Socket = codes "socket"
+
+-- an operation on a path, on two, or on a target and a path, on a descriptor, and on a descriptor and
+-- a number
 abbrev pub path_text : List ℕ → List ℕ → List ℕ
 path_text word path = word ++ text_of path
 
@@ -53,6 +61,17 @@ call_text (call.Rename old new) = paths_text (codes "rename ") old new
 call_text (call.Mkdir path) = path_text (codes "mkdir ") path
 call_text (call.Rmdir path) = path_text (codes "rmdir ") path
 call_text (call.List path) = path_text (codes "list ") path
+call_text (call.Symlink target path) = paths_text (codes "symlink ") target path
+call_text (call.Readlink path) = path_text (codes "readlink ") path
+call_text (call.Lstat path) = path_text (codes "lstat ") path
+call_text (call.Mknod path special) =
+    codes "mknod " ++ text_of path ++ codes " " ++ special_text special
+call_text (call.Chmod path permissions) =
+    codes "chmod " ++ text_of path ++ codes " " ++ octal permissions
+call_text (call.Chown path owner) = codes "chown " ++ text_of path ++ new_owner_text owner
+call_text (call.Fchmod fd permissions) =
+    codes "fchmod " ++ decimal fd ++ codes " " ++ octal permissions
+call_text (call.Fchown fd owner) = codes "fchown " ++ decimal fd ++ new_owner_text owner
 call_text (call.Dup fd) = number_text (codes "dup ") fd
 call_text (call.Dup2 old new) = numbers_text (codes "dup2 ") old new
 call_text call.Pipe = codes "pipe"

@@ -14,6 +14,7 @@ use Rattle.ids.specs.declared.reply.Answer.{Answer}
 use Rattle.ids.specs.declared.reply.Answer.TheVariants as answer
 use Rattle.ids.specs.declared.reply.Reply.{Reply}
 use Rattle.ids.specs.declared.reply.Reply.TheVariants as reply
+use Rattle.transcript.specs.Rights.{rights_text}
 use Rattle.transcript.specs.Text.{text_of}
 
 abbrev pub aspect_text : Aspect → List ℕ
@@ -26,6 +27,8 @@ aspect_text (aspect.Ends pipe) = codes "ends"
 aspect_text (aspect.Offset description) = codes "offset"
 aspect_text (aspect.Front pipe) = codes "front"
 aspect_text (aspect.Back pipe) = codes "back"
+aspect_text (aspect.Target link) = codes "target"
+aspect_text (aspect.Rights inode) = codes "rights"
 
 abbrev pub access_text : Bool → List ℕ
 access_text write = if write then codes " write" else codes " read"
@@ -46,11 +49,14 @@ abbrev pub kind_text : Kind → List ℕ
 kind_text kind.File = codes "file"
 kind_text kind.Dir = codes "dir"
 kind_text kind.Pipe = codes "pipe"
+kind_text kind.Link = codes "link"
+kind_text kind.Fifo = codes "fifo"
+kind_text kind.Socket = codes "socket"
 
 abbrev pub stat_text : Stat → List ℕ
 stat_text stat =
     kind_text stat.kind ++ codes " size " ++ decimal stat.size ++ codes " links "
-    ++ decimal stat.links
+    ++ decimal stat.links ++ rights_text stat.kind stat.rights
 
 -- a name behind a space
 abbrev pub name_text : List ℕ → List ℕ

@@ -11,6 +11,7 @@ mod operation;
 mod pending;
 mod printer;
 mod reply;
+mod rights;
 mod spelling;
 mod text;
 

@@ -3,15 +3,17 @@ ghost use Rattle.std.specs.Prelude.{◌≡◌, ◌++◌, codes, decimal};
 ghost use Rattle.std.specs.Fmt.{signed_decimal};
 ghost use Rattle.transcript.specs.Flags.{begin_flags_text, flags_text};
 ghost use Rattle.transcript.specs.Operation.{bytes_text, call_text, numbers_text, op_text};
-ghost use Rattle.transcript.specs.Operation.{path_text, paths_text, whence_text};
+ghost use Rattle.transcript.specs.Operation.{path_text, paths_text, special_text, whence_text};
 ghost use Rattle.transcript.specs.Printer.{CanPrint, Prints};
+ghost use Rattle.transcript.specs.Rights.{new_owner_text, octal};
 ghost use Rattle.transcript.specs.Text.{text_of};
 
 use crate::flags::{begin_flags_text, put_flags};
 use crate::printer::Printer;
+use crate::rights::{put_new_owner, put_permissions};
 use crate::text::put_text;
 use device::Sink;
-use ids::{BeginFlags, Bytes, Call, Op, OpenFlags, Whence};
+use ids::{BeginFlags, Bytes, Call, NewOwner, Op, OpenFlags, Permissions, Special, Whence};
 
 fn whence_text(whence: Whence) -> &'static [u8]
     ensures { result.now ≡ whence_text whence }
@@ -20,6 +22,15 @@ fn whence_text(whence: Whence) -> &'static [u8]
         Whence::Set => b"SET",
         Whence::Cur => b"CUR",
         Whence::End => b"END",
+    }
+}
+
+fn special_text(special: Special) -> &'static [u8]
+    ensures { result.now ≡ special_text special }
+{
+    match special {
+        Special::Fifo => b"fifo",
+        Special::Socket => b"socket",
     }
 }
 
@@ -123,6 +134,54 @@ fn put_truncate<S: Sink>(out: &mut Printer<'_, S>, path: &Bytes, size: u32)
     out.put_number(b" ", size);
 }
 
+fn put_mknod<S: Sink>(out: &mut Printer<'_, S>, path: &Bytes, special: Special)
+    requires { CanPrint S.failures out.old }
+    ensures { Prints S.written S.failures out.old out.new
+        (codes "mknod " ++ text_of path.now ++ codes " " ++ special_text special) }
+{
+    put_path(out, b"mknod ", path);
+    out.put_word(b" ");
+    out.put(special_text(special));
+}
+
+fn put_chmod<S: Sink>(out: &mut Printer<'_, S>, path: &Bytes, permissions: Permissions)
+    requires { CanPrint S.failures out.old }
+    ensures { Prints S.written S.failures out.old out.new
+        (codes "chmod " ++ text_of path.now ++ codes " " ++ octal permissions) }
+{
+    put_path(out, b"chmod ", path);
+    out.put_word(b" ");
+    put_permissions(out, permissions);
+}
+
+fn put_chown<S: Sink>(out: &mut Printer<'_, S>, path: &Bytes, owner: NewOwner)
+    requires { CanPrint S.failures out.old }
+    ensures { Prints S.written S.failures out.old out.new
+        (codes "chown " ++ text_of path.now ++ new_owner_text owner) }
+{
+    put_path(out, b"chown ", path);
+    put_new_owner(out, owner);
+}
+
+fn put_fchmod<S: Sink>(out: &mut Printer<'_, S>, fd: u32, permissions: Permissions)
+    requires { CanPrint S.failures out.old }
+    ensures { Prints S.written S.failures out.old out.new
+        (codes "fchmod " ++ decimal fd ++ codes " " ++ octal permissions) }
+{
+    out.put_number(b"fchmod ", fd);
+    out.put_word(b" ");
+    put_permissions(out, permissions);
+}
+
+fn put_fchown<S: Sink>(out: &mut Printer<'_, S>, fd: u32, owner: NewOwner)
+    requires { CanPrint S.failures out.old }
+    ensures { Prints S.written S.failures out.old out.new
+        (codes "fchown " ++ decimal fd ++ new_owner_text owner) }
+{
+    out.put_number(b"fchown ", fd);
+    put_new_owner(out, owner);
+}
+
 fn put_call<S: Sink>(out: &mut Printer<'_, S>, call: &Call)
     requires { CanPrint S.failures out.old }
     ensures { Prints S.written S.failures out.old out.new (call_text call.now) }
@@ -145,6 +204,14 @@ fn put_call<S: Sink>(out: &mut Printer<'_, S>, call: &Call)
         Call::Mkdir(path) => put_path(out, b"mkdir ", path),
         Call::Rmdir(path) => put_path(out, b"rmdir ", path),
         Call::List(path) => put_path(out, b"list ", path),
+        Call::Symlink(target, path) => put_paths(out, b"symlink ", target, path),
+        Call::Readlink(path) => put_path(out, b"readlink ", path),
+        Call::Lstat(path) => put_path(out, b"lstat ", path),
+        Call::Mknod(path, special) => put_mknod(out, path, *special),
+        Call::Chmod(path, permissions) => put_chmod(out, path, *permissions),
+        Call::Chown(path, owner) => put_chown(out, path, *owner),
+        Call::Fchmod(fd, permissions) => put_fchmod(out, fd.0, *permissions),
+        Call::Fchown(fd, owner) => put_fchown(out, fd.0, *owner),
         Call::Dup(fd) => out.put_number(b"dup ", fd.0),
         Call::Dup2(old, new) => put_numbers(out, b"dup2 ", old.0, new.0),
         Call::Pipe => out.put_word(b"pipe"),

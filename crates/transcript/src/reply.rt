@@ -7,6 +7,7 @@ ghost use Rattle.transcript.specs.Reply.{reply_text, restarted_text, stat_text, 
 ghost use Rattle.transcript.specs.Text.{text_of};
 
 use crate::printer::Printer;
+use crate::rights::put_rights;
 use crate::text::put_text;
 use device::Sink;
 use ids::{Answer, Aspect, Cause, Kind, Name, Reply, Stat, Why};
@@ -33,6 +34,8 @@ fn put_aspect<S: Sink>(out: &mut Printer<'_, S>, aspect: &Aspect)
         Aspect::Offset(_) => out.put_word(b"offset"),
         Aspect::Front(_) => out.put_word(b"front"),
         Aspect::Back(_) => out.put_word(b"back"),
+        Aspect::Target(_) => out.put_word(b"target"),
+        Aspect::Rights(_) => out.put_word(b"rights"),
     }
 }
 
@@ -75,6 +78,9 @@ fn put_kind<S: Sink>(out: &mut Printer<'_, S>, kind: Kind)
         Kind::File => out.put_word(b"file"),
         Kind::Dir => out.put_word(b"dir"),
         Kind::Pipe => out.put_word(b"pipe"),
+        Kind::Link => out.put_word(b"link"),
+        Kind::Fifo => out.put_word(b"fifo"),
+        Kind::Socket => out.put_word(b"socket"),
     }
 }
 
@@ -85,6 +91,7 @@ fn put_stat<S: Sink>(out: &mut Printer<'_, S>, stat: &Stat)
     put_kind(out, stat.kind);
     out.put_number(b" size ", stat.size);
     out.put_number(b" links ", stat.links);
+    put_rights(out, stat.kind, stat.rights);
 }
 
 fn put_each_name<S: Sink>(out: &mut Printer<'_, S>, names: &[Name])

@@ -4,89 +4,94 @@
 //! `txfs [--limit N] [--file-limit N]`
 #![tactic(auto)]
 
-mod limits;
 mod mount;
 
+ghost use Rattle.std.specs.Prelude.{◌≤◌, IfOk};
+ghost use Rattle.ids.specs.declared.limits.TheConstants.{LARGEST_FILE, MAX_ENTRIES};
+
+use ids::Limits;
 use kernel::Kernel;
-use limits::limits_in;
 use mount::serve;
-use session::Streams;
-use std::env;
+use mount_words::{CommandLineFault, read_limits};
+use session::{Ending, Streams};
 use std::io::Write;
 use std::process::ExitCode;
+use std::{env, io};
 
-// How the session ends.
-#[derive(Clone, Copy, Debug)]
-enum Ending {
-    // It was unmounted.
-    Unmounted,
-    // The command line has a fault.
-    Usage,
-    // Memory was refused.
-    NoMemory,
-    // A read failed.
-    Read,
-}
+// The exit status where memory was refused, and where a read failed.
+const NO_MEMORY: u8 = 3;
 
-impl Ending {
-    fn status(self) -> u8 {
-        match self {
-            Ending::Unmounted => 0,
-            Ending::Usage => 2,
-            Ending::NoMemory => 3,
-            Ending::Read => 5,
-        }
-    }
-
-    fn text(self) -> &'static str {
-        match self {
-            Ending::Unmounted => "",
-            Ending::Usage => "txfs: usage: txfs [--limit N] [--file-limit N]\n",
-            Ending::NoMemory => "txfs: no memory\n",
-            Ending::Read => "txfs: read failed\n",
-        }
-    }
-}
+const READ_FAILED: u8 = 5;
 
 fn main(rt: HostRuntime) -> ExitCode {
-    let ending = run(&rt);
-    let _said = rt.stderr().write_all(ending.text().as_bytes());
-    ExitCode::from(ending.status())
+    ExitCode::from(status(&rt))
 }
 
-// The words of the command line.
-fn words_of(rt: &HostRuntime) -> Result<Vec<String>, Ending> {
-    let Ok(words) = env::args(rt) else {
-        return Err(Ending::Usage);
+// Reads the command line, and serves the session up to its end. Returns the exit status.
+fn status(rt: &HostRuntime) -> u8 {
+    match limits_in(rt) {
+        Ok(limits) => serve_streams(rt, limits),
+        Err(fault) => {
+            fault.report(rt);
+            fault.status()
+        }
+    }
+}
+
+// Serves the session on standard input and output.
+fn serve_streams(rt: &HostRuntime, limits: Limits) -> u8
+    requires entries { limits.entries ≤ MAX_ENTRIES }
+    requires files { limits.file_bytes ≤ LARGEST_FILE }
+{
+    let Ok(heap) = heap::open(rt.alloc()) else {
+        return ended(rt, "txfs: no memory\n", NO_MEMORY);
+    };
+    let mut channel = Streams {
+        input: rt.stdin(),
+        output: rt.stdout(),
+        clock: rt,
+    };
+    match serve::<Kernel, _>(heap, limits, &mut channel) {
+        Ok(Ending::Unmounted) => 0,
+        Ok(Ending::Failed) => ended(rt, "txfs: read failed\n", READ_FAILED),
+        Err(_) => ended(rt, "txfs: no memory\n", NO_MEMORY),
+    }
+}
+
+// Says why no session is served, or it ends before it is unmounted. Where that fails there is nobody to tell.
+fn ended(rt: &HostRuntime, text: &str, status: u8) -> u8 {
+    let _said = rt.stderr().write_all(text.as_bytes());
+    status
+}
+
+// The limits that the command line asks for.
+fn limits_in(rt: &HostRuntime) -> Result<Limits, CommandLineFault>
+    ensures entries { IfOk result (λ l. l.entries ≤ MAX_ENTRIES) }
+    ensures files { IfOk result (λ l. l.file_bytes ≤ LARGEST_FILE) }
+{
+    let words = words_of(rt)?;
+    read_limits(rt.alloc(), words.as_slice())
+}
+
+// The words of the command line, the program's name first. A word that is not UTF-8 leaves none.
+fn words_of(rt: &HostRuntime) -> Result<Vec<String>, CommandLineFault> {
+    let words = match env::args(rt) {
+        Ok(words) => words,
+        Err(error) => return Err(fault_of(&error)),
     };
     let mut texts = Vec::new(rt.alloc());
     for text in words {
         if texts.push(text).is_err() {
-            return Err(Ending::NoMemory);
+            return Err(CommandLineFault::NoMemory);
         }
     }
     Ok(texts)
 }
 
-// Reads the command line and serves the session.
-fn run(rt: &HostRuntime) -> Ending {
-    let words = match words_of(rt) {
-        Ok(words) => words,
-        Err(ending) => return ending,
-    };
-    let Ok(limits) = limits_in(words.as_slice()) else {
-        return Ending::Usage;
-    };
-    let Ok(heap) = heap::open(rt.alloc()) else {
-        return Ending::NoMemory;
-    };
-    let mut channel = Streams {
-        input: rt.stdin(),
-        output: rt.stdout(),
-    };
-    match serve::<Kernel, _>(heap, limits, &mut channel) {
-        Ok(session::Ending::Unmounted) => Ending::Unmounted,
-        Ok(session::Ending::Failed) => Ending::Read,
-        Err(_) => Ending::NoMemory,
+// Why the words cannot be had: they are refused memory, or one is not UTF-8.
+fn fault_of(error: &io::Error) -> CommandLineFault {
+    match error.kind() {
+        io::ErrorKind::OutOfMemory => CommandLineFault::NoMemory,
+        _ => CommandLineFault::NotUtf8,
     }
 }

@@ -4,7 +4,7 @@ ghost use Rattle.ids.specs.declared.limits.TheConstants.{LARGEST_FILE, MAX_ENTRI
 ghost use Rattle.mounted.specs.Server.{HasServed};
 ghost use Rattle.txfs.specs.Sessions.{IsSession};
 
-use fuse::{Reply, Request};
+use fuse::{Reply, Request, Time};
 use heap::Heap;
 use ids::Limits;
 use machine::Machine;
@@ -35,8 +35,8 @@ impl<K: Machine> Model for Mount<K> {
 impl<K: Machine> Service for Mount<K> {
     ghost serves = { λ old request reply new. HasServed old new request reply };
 
-    fn serve(&mut self, request: Request) -> Option<Reply> {
-        self.server.serve(request)
+    fn serve(&mut self, request: Request, now: Time) -> Option<Reply> {
+        self.server.serve(request, now)
     }
 }
 

@@ -1,7 +1,8 @@
 //! The walk along a path's names, from the root of any state that can be looked at.
 //!
-//! Each name that is looked up is read, whether it is there or not. Where reads count they are added
-//! to those before; where memory is refused, some may have been added.
+//! Each name that is looked up is read, whether it is there or not. No symbolic link is followed.
+//! Where reads count they are added to those before; where memory is refused, some may have been
+//! added.
 #![tactic(auto)]
 
 mod last;
@@ -18,7 +19,7 @@ pub use last::Last;
 use look::Look;
 use path::Path;
 pub use reads::Reads;
-pub use steps::{must_be_directory, or_refuse};
+pub use steps::{must_be_directory, must_not_be_link, or_refuse};
 pub use touches::Touches;
 
 /// The place that a path leads to.
@@ -59,6 +60,7 @@ fn look_up<L: Look>(
 ) -> Result<Option<(Num, Option<Kind>)>, Refusal>
     ensures { Comes (L.state look.now) (look_in place.now name.now) reads.old result reads.new }
 {
+    must_not_be_link(place)?;
     must_be_directory(place)?;
     reads.add_entry(place.0, name)?;
     Ok(look.find(place.0, name))

@@ -1,7 +1,7 @@
 // Steps of plans that ask nothing.
 ghost use Rattle.std.specs.Prelude.{not};
-ghost use Rattle.model.specs.Plan.{refuse_if, or_refuse, ENOTDIR};
-ghost use Rattle.model.specs.Walks.{is_directory};
+ghost use Rattle.model.specs.Plan.{refuse_if, or_refuse, ELOOP, ENOTDIR};
+ghost use Rattle.model.specs.Walks.{is_directory, is_link};
 ghost use Rattle.look.specs.Asked.{Tells};
 
 use ids::{Errno, Kind, Num, Refusal};
@@ -13,6 +13,16 @@ pub fn or_refuse<T: Drop>(errno: Errno, value: Option<T>) -> Result<T, Refusal>
     match value {
         Some(value) => Ok(value),
         None => Err(Refusal::Errno(errno)),
+    }
+}
+
+/// A place that must not be a symbolic link, since none is followed.
+pub fn must_not_be_link(place: &(Num, Option<Kind>)) -> Result<(), Refusal>
+    ensures { Tells (refuse_if (is_link place.now) ELOOP) result }
+{
+    match place.1 {
+        Some(Kind::Link) => Err(Refusal::Errno(Errno::ELOOP)),
+        _ => Ok(()),
     }
 }
 

@@ -2,7 +2,11 @@
 #![tactic(auto)]
 
 #[cfg(test)]
+mod beside_links;
+#[cfg(test)]
 mod beside_offsets;
+#[cfg(test)]
+mod beside_rights;
 #[cfg(test)]
 mod beside_truncates;
 #[cfg(test)]
@@ -14,9 +18,17 @@ mod capacity;
 #[cfg(test)]
 mod changed;
 #[cfg(test)]
+mod errors_at_links;
+#[cfg(test)]
 mod errors_at_offsets;
 #[cfg(test)]
+mod errors_of_links;
+#[cfg(test)]
+mod errors_of_rights;
+#[cfg(test)]
 mod errors_of_truncates;
+#[cfg(test)]
+mod fifos;
 #[cfg(test)]
 mod files;
 #[cfg(test)]
@@ -29,6 +41,8 @@ mod freeing;
 mod given_up;
 #[cfg(test)]
 mod growths;
+#[cfg(test)]
+mod kept_rights;
 #[cfg(test)]
 mod large_tests;
 #[cfg(test)]
@@ -74,6 +88,8 @@ mod refused_pipes;
 #[cfg(test)]
 mod renames;
 #[cfg(test)]
+mod rights;
+#[cfg(test)]
 mod row;
 #[cfg(test)]
 mod rows;
@@ -81,6 +97,10 @@ mod rows;
 mod shared;
 #[cfg(test)]
 mod shown;
+#[cfg(test)]
+mod symbolic_links;
+#[cfg(test)]
+mod targets;
 #[cfg(test)]
 mod tests;
 #[cfg(test)]

@@ -46,6 +46,21 @@ macro_rules! row_after {
             $($rest)*
         }
     };
+    // It makes a directory, a symbolic link to it, a link to nothing in it, a FIFO and a socket.
+    (after: a_link_a_fifo_and_a_socket, $($rest:tt)*) => {
+        $crate::openings::opened! {
+            operations: [
+                "1 mkdir /d\n1 symlink d /l\n1 symlink t /d/m\n1 mknod /f fifo\n"
+                "1 mknod /s socket\n"
+            ],
+            turns: "1,1,1,1,1,",
+            replies: [
+                "1 P1 mkdir /d -> ok\n2 P1 symlink d /l -> ok\n3 P1 symlink t /d/m -> ok\n"
+                "4 P1 mknod /f fifo -> ok\n5 P1 mknod /s socket -> ok\n"
+            ],
+            $($rest)*
+        }
+    };
     // It has a file open for reads, then for both, and both ends of a pipe.
     (after: a_file_twice_and_a_pipe, $($rest:tt)*) => {
         $crate::openings::opened! {

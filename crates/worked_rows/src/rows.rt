@@ -1,24 +1,33 @@
 // All rows.
+use crate::beside_links::BESIDE_LINKS;
 use crate::beside_offsets::BESIDE_OFFSETS;
+use crate::beside_rights::BESIDE_RIGHTS;
 use crate::beside_truncates::BESIDE_TRUNCATES;
 use crate::bytes_at_offsets::BYTES_AT_OFFSETS;
 use crate::bytes_of_truncates::BYTES_OF_TRUNCATES;
+use crate::errors_at_links::ERRORS_AT_LINKS;
 use crate::errors_at_offsets::ERRORS_AT_OFFSETS;
+use crate::errors_of_links::ERRORS_OF_LINKS;
+use crate::errors_of_rights::ERRORS_OF_RIGHTS;
 use crate::errors_of_truncates::ERRORS_OF_TRUNCATES;
+use crate::fifos::FIFOS;
 use crate::files::FILES;
 use crate::freed::FREED;
+use crate::kept_rights::KEPT_RIGHTS;
 use crate::links::LINKS;
 use crate::names_of_truncates::NAMES_OF_TRUNCATES;
 use crate::pipes::{HALVES, PIPES};
 use crate::processes::{ENDED, PROCESSES};
 use crate::renames::RENAMES;
+use crate::rights::RIGHTS;
 use crate::row::Row;
 use crate::shared::SHARED;
+use crate::symbolic_links::SYMBOLIC_LINKS;
 use crate::transactions::TRANSACTIONS;
 use crate::trees::TREES;
 
 // How many kinds of rows there are.
-pub(crate) const KINDS: usize = 18;
+pub(crate) const KINDS: usize = 27;
 
 // The rows of a kind, whose number is below `KINDS`. The functions that go over all of them do so in
 // a loop, since the proof of a call for each kind is long.
@@ -41,6 +50,15 @@ pub(crate) fn rows_of(kind: usize) -> &'static [Row] {
         14 => &BESIDE_TRUNCATES,
         15 => &ERRORS_AT_OFFSETS,
         16 => &BYTES_AT_OFFSETS,
-        _ => &BESIDE_OFFSETS,
+        17 => &BESIDE_OFFSETS,
+        18 => &SYMBOLIC_LINKS,
+        19 => &FIFOS,
+        20 => &ERRORS_OF_LINKS,
+        21 => &ERRORS_AT_LINKS,
+        22 => &BESIDE_LINKS,
+        23 => &RIGHTS,
+        24 => &KEPT_RIGHTS,
+        25 => &ERRORS_OF_RIGHTS,
+        _ => &BESIDE_RIGHTS,
     }
 }

@@ -16,11 +16,26 @@ const DIRECTORIES: usize = 50;
 fn show_file<L: Look>(heap: Heap, text: &mut Text, view: &L, file: Num) -> Result<(), AllocError> {
     let size = view.size(file)?;
     let links = view.links(file)?;
+    let rights = view.rights(file);
     let bytes = view.read_file(heap, file, 0, SHOWN)?;
-    write!(text, " {size} {links} {bytes:?}")
+    write!(text, " {size} {links} {rights:?} {bytes:?}")
 }
 
-// Shows the names of a directory, and puts the directories among them behind the others.
+// What a name gives that never changes: by how many names, and the target of a symbolic link.
+fn show_fixed<L: Look>(
+    heap: Heap,
+    text: &mut Text,
+    view: &L,
+    fixed: Num,
+) -> Result<(), AllocError> {
+    let links = view.links(fixed)?;
+    let rights = view.rights(fixed);
+    let target = view.target(heap, fixed)?;
+    write!(text, " {links} {rights:?} {target:?}")
+}
+
+// Shows the rights and the names of a directory, and puts the directories among them behind the
+// others.
 fn show_names<L: Look>(
     heap: Heap,
     text: &mut Text,
@@ -28,7 +43,8 @@ fn show_names<L: Look>(
     dir: Num,
     dirs: &mut Vec<Num, Heap>,
 ) -> Result<(), AllocError> {
-    write!(text, "\n{dir:?}")?;
+    let rights = view.rights(dir);
+    write!(text, "\n{dir:?} {rights:?}")?;
     let names = view.names(heap, dir)?;
     let shown = show_each(heap, text, view, dir, names.as_slice(), dirs);
     drop(names);
@@ -49,6 +65,9 @@ fn show_each<L: Look>(
         match found {
             Some((num, Some(Kind::Dir))) => dirs.push(num)?,
             Some((num, Some(Kind::File))) => show_file(heap, text, view, num)?,
+            Some((num, Some(Kind::Link)))
+            | Some((num, Some(Kind::Fifo)))
+            | Some((num, Some(Kind::Socket))) => show_fixed(heap, text, view, num)?,
             _ => (),
         }
     }
@@ -68,8 +87,9 @@ fn show_tree<L: Look>(heap: Heap, text: &mut Text, view: &L) -> Result<(), Alloc
 
 fn show_pipe<L: Look>(heap: Heap, text: &mut Text, view: &L, pipe: Num) -> Result<(), AllocError> {
     let ends = view.ends(pipe)?;
+    let rights = view.rights(pipe);
     let bytes = view.read_pipe(heap, pipe, SHOWN)?;
-    write!(text, " {ends:?} {bytes:?}")
+    write!(text, " {ends:?} {rights:?} {bytes:?}")
 }
 
 fn show_slot<L: Look>(

@@ -1,25 +1,46 @@
 -- The edits of each call fit a well-formed state, are the caller's own, and mark objects that are there.
-use Rattle.std.proofs.Common.{ℕ, pos, ◌+ℤ◌, true, false, not, ◌&&◌, ◌||◌, List, [], if◌then◌else◌, Some, IfOk, refl, sym, ◌==◌, nat_lt}
-use Rattle.model.specs.State.{A_directory, Kernel}
-use Rattle.model.specs.Plan.{given, ENOTDIR, EEXIST, EBUSY, EPERM, EINVAL, EISDIR, EBADF, EFBIG, ESPIPE, or_refuse}
+use Rattle.std.proofs.Common.{◌≢◌, ◌∙◌, ℕ, pos, ◌+ℤ◌, true, false, not, ◌&&◌, ◌||◌, List, [], if◌then◌else◌, Option, Some, None, IfOk, refl, sym, ◌==◌, nat_lt, length}
+use Rattle.std.specs.List.{list_any}
+use Rattle.model.specs.State.{Kind, A_directory, Rights, Kernel, Link_to, kind_of}
+use Rattle.model.specs.Plan.{given, ENAMETOOLONG, ENOENT, ENOTDIR, EEXIST, EBUSY, ELOOP, EPERM, EINVAL, EISDIR, EBADF, EFBIG, ESPIPE, or_refuse}
 use Rattle.model.specs.Paths.{is_empty}
-use Rattle.model.specs.Walks.{parsed, walk, is_directory, last_of}
+use Rattle.model.specs.Walks.{Place, parsed, walk, is_directory, is_link, last_of}
+use Rattle.ids.specs.Fixed.{special_object}
 use Rattle.ids.specs.Flags.{is_reading, is_writing, is_creating, is_exclusive, is_truncating}
-use Rattle.model.specs.Calls.{Call, Open, Close, Read, Pread, Write, Pwrite, Lseek, Ftruncate, Truncate, Stat, Fstat, Link, Unlink, Rename, Mkdir, Rmdir, List_directory, Dup, Dup2, Open_pipe, Fork, Exit, Count, Bytes, own}
-use Rattle.model.specs.Plans.{unchanged, is_pipe, read_some, write_some, offset_named, read_from, write_from, base, free, first_of_free}
+use Rattle.model.specs.Calls.{Call, Open, Close, Read, Pread, Write, Pwrite, Lseek, Ftruncate, Truncate, Stat, Fstat, Link, Unlink, Rename, Mkdir, Rmdir, List_directory, Symlink, Readlink, Lstat, Mknod, Chmod, Chown, Fchmod, Fchown, Dup, Dup2, Open_pipe, Fork, Exit, Count, Bytes, Slot, own}
+use Rattle.ids.specs.Rights.{permitted, owned}
+use Rattle.model.specs.Plans.{target_limit, revised, unchanged, is_pipe, read_some, write_some, offset_named, read_from, write_from, base, free, first_of_free}
 use Rattle.model.specs.Steps.{outcome}
 use Rattle.model.specs.Entries.{is_inside}
-use Rattle.call_laws.specs.WellFormed.{WellFormed}
+use Rattle.call_laws.specs.WellFormed.{CanBeNamed, CanBeOpened, WellFormed}
 use Rattle.call_laws.specs.Fits.{IsAlive}
-use Rattle.call_laws.proofs.edits.InodeMarks.{file_is_other}
-use Rattle.call_laws.proofs.calls.Rules.{after_bind, whatever, weaken, allowed, either_given, IsLast, root_place, last_of_right, walk_right}
+use Rattle.call_laws.proofs.edits.InodeMarks.{linked_is_other}
+use Rattle.call_laws.proofs.calls.Rules.{after_bind, whatever, weaken, allowed, either_given, IsPlace, IsLast, root_place, last_of_right, walk_right}
 use Rattle.call_laws.proofs.calls.NoRing.{IsLedTo, last_of_led}
 use Rattle.call_laws.proofs.calls.OwnSlots.{IsFreeIn, all_free, free_different}
-use Rattle.call_laws.proofs.calls.OpenSlots.{is_open, with_slot}
+use Rattle.call_laws.proofs.calls.OpenSlots.{IsOpen, is_open, with_slot}
 use Rattle.call_laws.proofs.calls.WillFit.{WillFit, both_ok, unchanged_fits}
-use Rattle.call_laws.proofs.calls.NamesFit.{mkdir_at, rmdir_at, status_fits, not_directory, link_at, unlink_at, rename_at}
+use Rattle.call_laws.proofs.calls.NamesFit.{mkdir_at, fixed_at, rmdir_at, status_fits, not_directory, file_alone, link_at, unlink_at, rename_at}
 use Rattle.call_laws.proofs.calls.ContentsFit.{read_at, write_at, put_from, seek_at, truncated, cut_fits}
 use Rattle.call_laws.proofs.calls.SlotsFit.{close_at, dup_with, dup2_at, pipe_with, fork_at, exit_at, open_at_last, first_free}
+
+-- the rights of an inode that is there can be set
+revised_fits : (k : Kernel) (pid : ℕ) (chosen : List ℕ) (n : ℕ) (change : Rights → Rights) → kind_of k n ≢ None → IfOk (given k (revised n change)) (WillFit k pid true chosen)
+revised_fits k pid chosen n change there = record { fits = λ can. (there, tt); by = (tt, tt); there = (there, tt) }
+
+named_there : (o : Option Kind) → CanBeNamed o → o ≢ None
+named_there None h e = h
+named_there (Some what) h e = absurd cc
+
+opened_there : (o : Option Kind) → CanBeOpened o → o ≢ None
+opened_there None h e = h
+opened_there (Some what) h e = absurd cc
+
+place_there : (k : Kernel) (place : Place) → IsPlace k place → kind_of k place.0 ≢ None
+place_there k place r none = named_there place.1 r.can_be_named (r.right ∙ none)
+
+slot_there : (k : Kernel) (s : Slot) → IsOpen k s → kind_of k s.inode ≢ None
+slot_there k s held none = opened_there s.kind held.can_be_opened (held.kind ∙ none)
 
 -- the plan's change fits, whatever call it is
 pub call_fits : (k : Kernel) (pid : ℕ) (call : Call) (chosen : List ℕ) → WellFormed k → IsAlive k pid → IfOk (outcome k pid call) (WillFit k pid (is_inside call) chosen)
@@ -60,19 +81,20 @@ call_fits k pid (Ftruncate f len) chosen well alive = with_slot k pid (Ftruncate
 call_fits k pid (Truncate path len) chosen well alive =
     after_bind k (WillFit k pid true chosen) (parsed path) _ (whatever (given k (parsed path)) (λ names.
     after_bind k (WillFit k pid true chosen) (walk (k.root, Some A_directory) names) _ (weaken (given k (walk (k.root, Some A_directory) names)) (walk_right k well k.root (Some A_directory) names (root_place k well)) (λ place right.
-    not_directory k well pid alive true chosen (WillFit k pid true chosen) place EISDIR _ right (λ file.
+    file_alone k well pid alive true chosen (WillFit k pid true chosen) place EISDIR ELOOP EINVAL _ right (λ file.
     allowed k (WillFit k pid true chosen) (nat_lt k.largest len) EFBIG _ (λ _. cut_fits k well pid alive true chosen place.0 len file))))))
 call_fits k pid (Stat path) chosen well alive =
     after_bind k (WillFit k pid true chosen) (parsed path) _ (whatever (given k (parsed path)) (λ names.
-    after_bind k (WillFit k pid true chosen) (walk (k.root, Some A_directory) names) _ (whatever (given k (walk (k.root, Some A_directory) names)) (λ place. status_fits k well pid alive true chosen place))))
+    after_bind k (WillFit k pid true chosen) (walk (k.root, Some A_directory) names) _ (whatever (given k (walk (k.root, Some A_directory) names)) (λ place.
+    allowed k (WillFit k pid true chosen) (is_link place) ELOOP _ (λ _. status_fits k well pid alive true chosen place)))))
 call_fits k pid (Fstat f) chosen well alive = with_slot k pid (Fstat f) f (WillFit k pid true chosen) _ (λ s held. status_fits k well pid alive true chosen (s.inode, s.kind))
 call_fits k pid (Link old path) chosen well alive =
     after_bind k (WillFit k pid true chosen) (parsed old) _ (whatever (given k (parsed old)) (λ from.
     after_bind k (WillFit k pid true chosen) (parsed path) _ (whatever (given k (parsed path)) (λ to.
     after_bind k (WillFit k pid true chosen) (walk (k.root, Some A_directory) from) _ (weaken (given k (walk (k.root, Some A_directory) from)) (walk_right k well k.root (Some A_directory) from (root_place k well)) (λ what place.
-    not_directory k well pid alive true chosen (WillFit k pid true chosen) what EPERM _ place (λ file.
+    not_directory k well pid alive true chosen (WillFit k pid true chosen) what EPERM _ place (λ linked.
     after_bind k (WillFit k pid true chosen) (last_of k.root EEXIST to) _ (weaken (given k (last_of k.root EEXIST to)) (last_of_right k well EEXIST to) (λ at last.
-    link_at k well pid alive true chosen what.0 at file (λ none. file_is_other k k.root what.0 well.root file (sym (place.rooted none))) last at.found refl)))))))))
+    link_at k well pid alive true chosen what.0 at linked (λ none. linked_is_other k k.root what.0 well.root linked (sym (place.rooted none))) last at.found refl)))))))))
 call_fits k pid (Unlink path) chosen well alive =
     after_bind k (WillFit k pid true chosen) (parsed path) _ (whatever (given k (parsed path)) (λ names.
     after_bind k (WillFit k pid true chosen) (last_of k.root EPERM names) _ (weaken (given k (last_of k.root EPERM names)) (last_of_right k well EPERM names) (λ at last. unlink_at k well pid alive true chosen at last at.found refl))))
@@ -92,7 +114,34 @@ call_fits k pid (Rmdir path) chosen well alive =
 call_fits k pid (List_directory path) chosen well alive =
     after_bind k (WillFit k pid true chosen) (parsed path) _ (whatever (given k (parsed path)) (λ names.
     after_bind k (WillFit k pid true chosen) (walk (k.root, Some A_directory) names) _ (whatever (given k (walk (k.root, Some A_directory) names)) (λ place.
-    allowed k (WillFit k pid true chosen) (not (is_directory place)) ENOTDIR _ (λ _. unchanged_fits k pid true chosen _)))))
+    allowed k (WillFit k pid true chosen) (is_link place) ELOOP _ (λ _.
+    allowed k (WillFit k pid true chosen) (not (is_directory place)) ENOTDIR _ (λ _. unchanged_fits k pid true chosen _))))))
+call_fits k pid (Symlink target path) chosen well alive =
+    allowed k (WillFit k pid true chosen) (is_empty target) ENOENT _ (λ _.
+    allowed k (WillFit k pid true chosen) (nat_lt target_limit (length target)) ENAMETOOLONG _ (λ _.
+    allowed k (WillFit k pid true chosen) (list_any (λ b. b == 0) target) EINVAL _ (λ _.
+    after_bind k (WillFit k pid true chosen) (parsed path) _ (whatever (given k (parsed path)) (λ names.
+    after_bind k (WillFit k pid true chosen) (last_of k.root EEXIST names) _ (weaken (given k (last_of k.root EEXIST names)) (last_of_right k well EEXIST names) (λ at last. fixed_at k well pid alive true chosen at (Link_to target) last at.found refl)))))))
+call_fits k pid (Readlink path) chosen well alive =
+    after_bind k (WillFit k pid true chosen) (parsed path) _ (whatever (given k (parsed path)) (λ names.
+    after_bind k (WillFit k pid true chosen) (walk (k.root, Some A_directory) names) _ (whatever (given k (walk (k.root, Some A_directory) names)) (λ place.
+    allowed k (WillFit k pid true chosen) (not (is_link place)) EINVAL _ (λ _. unchanged_fits k pid true chosen _)))))
+call_fits k pid (Lstat path) chosen well alive =
+    after_bind k (WillFit k pid true chosen) (parsed path) _ (whatever (given k (parsed path)) (λ names.
+    after_bind k (WillFit k pid true chosen) (walk (k.root, Some A_directory) names) _ (whatever (given k (walk (k.root, Some A_directory) names)) (λ place. status_fits k well pid alive true chosen place))))
+call_fits k pid (Mknod path special) chosen well alive =
+    after_bind k (WillFit k pid true chosen) (parsed path) _ (whatever (given k (parsed path)) (λ names.
+    after_bind k (WillFit k pid true chosen) (last_of k.root EEXIST names) _ (weaken (given k (last_of k.root EEXIST names)) (last_of_right k well EEXIST names) (λ at last. fixed_at k well pid alive true chosen at (special_object special) last at.found refl))))
+call_fits k pid (Chmod path permissions) chosen well alive =
+    after_bind k (WillFit k pid true chosen) (parsed path) _ (whatever (given k (parsed path)) (λ names.
+    after_bind k (WillFit k pid true chosen) (walk (k.root, Some A_directory) names) _ (weaken (given k (walk (k.root, Some A_directory) names)) (walk_right k well k.root (Some A_directory) names (root_place k well)) (λ place right.
+    allowed k (WillFit k pid true chosen) (is_link place) ELOOP _ (λ _. revised_fits k pid chosen place.0 (permitted permissions) (place_there k place right))))))
+call_fits k pid (Chown path owner) chosen well alive =
+    after_bind k (WillFit k pid true chosen) (parsed path) _ (whatever (given k (parsed path)) (λ names.
+    after_bind k (WillFit k pid true chosen) (walk (k.root, Some A_directory) names) _ (weaken (given k (walk (k.root, Some A_directory) names)) (walk_right k well k.root (Some A_directory) names (root_place k well)) (λ place right.
+    revised_fits k pid chosen place.0 (owned place.1 owner) (place_there k place right)))))
+call_fits k pid (Fchmod f permissions) chosen well alive = with_slot k pid (Fchmod f permissions) f (WillFit k pid true chosen) _ (λ s held. revised_fits k pid chosen s.inode (permitted permissions) (slot_there k s (is_open k well pid f s held)))
+call_fits k pid (Fchown f owner) chosen well alive = with_slot k pid (Fchown f owner) f (WillFit k pid true chosen) _ (λ s held. revised_fits k pid chosen s.inode (owned s.kind owner) (slot_there k s (is_open k well pid f s held)))
 call_fits k pid (Dup f) chosen well alive = with_slot k pid (Dup f) f (WillFit k pid true chosen) _ (λ s held. dup_with k well pid alive true chosen f (Dup f) s held (free (own k pid (Dup f))) (all_free (own k pid (Dup f)).table 0 64))
 call_fits k pid (Dup2 f g) chosen well alive = with_slot k pid (Dup2 f g) f (WillFit k pid true chosen) _ (λ s held. dup2_at k well pid alive true chosen f g s held (nat_lt 63 g) refl (f == g))
 call_fits k pid Open_pipe chosen well alive = pipe_with k well pid alive true chosen Open_pipe (free (own k pid Open_pipe)) (all_free (own k pid Open_pipe).table 0 64) (free_different (own k pid Open_pipe).table 0 64)

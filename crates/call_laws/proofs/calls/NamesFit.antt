@@ -1,15 +1,15 @@
--- The edits of calls on names fit: mkdir, rmdir, link, unlink and rename.
-use Rattle.std.proofs.Common.{◌≡◌, ◌≢◌, ℕ, Bool, true, false, not, ◌&&◌, List, [], ◌∷◌, Option, Some, None, IfOk, refl, sym, ◌∙◌, arith, ◌==◌}
+-- The edits of calls on names fit: mkdir, symlink, mknod, rmdir, link, unlink and rename.
+use Rattle.std.proofs.Common.{◌≡◌, ◌≢◌, ℕ, Bool, true, false, not, ◌&&◌, List, [], ◌∷◌, Option, Some, None, IfOk, refl, sym, subst, ◌∙◌, arith, ◌==◌}
 use Rattle.model.specs.FiniteMap.{get, keys}
-use Rattle.model.specs.State.{Name, Kind, A_file, A_directory, A_pipe, Kernel, kind_of, names_of, links}
+use Rattle.model.specs.State.{Name, Kind, A_file, A_directory, A_pipe, A_link, A_fifo, A_socket, Fixed_content, Kernel, kind_of, names_of, links}
 use Rattle.model.specs.Plan.{Errno, Plan, Give, given, ◌>>=◌, ◌>>◌, ask, List_names, refuse_if, or_refuse, ENOENT, ENOTDIR, ENOTEMPTY, EBUSY, EPERM, EINVAL, EISDIR}
 use Rattle.model.specs.Paths.{is_empty, is_below}
-use Rattle.model.specs.Walks.{Place, is_directory, Last, last_of}
-use Rattle.model.specs.Changes.{Make_directory, Name_file, Unname_file, Unname_directory, Move}
+use Rattle.model.specs.Walks.{Place, is_directory, is_link, Last, last_of}
+use Rattle.model.specs.Changes.{Make_directory, Make_fixed, Name_file, Unname_file, Unname_directory, Move}
 use Rattle.model.specs.Changes.{Replaced, Over_nothing, Over_file, Over_directory}
 use Rattle.model.specs.Calls.{Done}
-use Rattle.model.specs.Plans.{Change, changed, unchanged, absent, status, replaced_by_name, moved}
-use Rattle.call_laws.specs.WellFormed.{Leads, WellFormed}
+use Rattle.model.specs.Plans.{Change, changed, unchanged, absent, status, is_special, replaced_by_name, moved}
+use Rattle.call_laws.specs.WellFormed.{CanBeLinked, Leads, WellFormed}
 use Rattle.call_laws.specs.Fits.{CanMove, CanBeReplaced, IsAlive}
 use Rattle.std.proofs.lemmas.Bool.{not-false}
 use Rattle.call_laws.proofs.calls.Rules.{after_bind, weaken, allowed, either_given, IsPlace, IsLast, entry_place, last_of_right}
@@ -29,11 +29,23 @@ module _ (k : Kernel) (well : WellFormed k) (pid : ℕ) (alive : IsAlive k pid) 
     there = (last.parent.directory, tt);
   }
 
+  -- what never changes
+  pub fixed_at : (at : Last) (fixed : Fixed_content) → IsLast k at → (o : Option Place) → at.found ≡ o → IfOk (given k (absent o >>= (λ _. changed Done (Make_fixed at.parent at.name fixed 0 ∷ [])))) Fine
+  fixed_at at fixed last (Some place) e = tt
+  fixed_at at fixed last None e = record {
+    fits = λ can. ((record { parent = last.parent; free = nothing_given k (get (names_of k at.parent) at.name) (sym last.found ∙ e) }, nowhere_at k chosen 0 (omega (arith, can.count)) can.unused, listed_at chosen 0 (omega (arith, can.count))), tt);
+    by = (tt, tt);
+    there = (last.parent.directory, tt);
+  }
+
   pub rmdir_at : (at : Last) → IsLast k at → (o : Option Place) → at.found ≡ o → IfOk (given k (or_refuse ENOENT o >>= (λ what. refuse_if (not (is_directory what)) ENOTDIR >> (ask (List_names what.0) >>= (λ entries. refuse_if (not (is_empty entries)) ENOTEMPTY >> changed Done (Unname_directory at.parent at.name what.0 ∷ [])))))) Fine
   rmdir_at at last None e = tt
   rmdir_at at last (Some (n, None)) e = tt
   rmdir_at at last (Some (n, Some A_file)) e = tt
   rmdir_at at last (Some (n, Some A_pipe)) e = tt
+  rmdir_at at last (Some (n, Some A_link)) e = tt
+  rmdir_at at last (Some (n, Some A_fifo)) e = tt
+  rmdir_at at last (Some (n, Some A_socket)) e = tt
   rmdir_at at last (Some (n, Some A_directory)) e =
       let there = given_there k (n, Some A_directory) (get (names_of k at.parent) at.name) (sym last.found ∙ e) in
       allowed k Fine (not (is_empty (keys (names_of k n)))) ENOTEMPTY (changed Done (Unname_directory at.parent at.name n ∷ [])) (λ empty. record {
@@ -47,30 +59,46 @@ module _ (k : Kernel) (well : WellFormed k) (pid : ℕ) (alive : IsAlive k pid) 
   status_fits (n, Some A_file) = unchanged_fits k pid inside chosen _
   status_fits (n, Some A_directory) = unchanged_fits k pid inside chosen _
   status_fits (n, Some A_pipe) = unchanged_fits k pid inside chosen _
+  status_fits (n, Some A_link) = unchanged_fits k pid inside chosen _
+  status_fits (n, Some A_fifo) = unchanged_fits k pid inside chosen _
+  status_fits (n, Some A_socket) = unchanged_fits k pid inside chosen _
 
-  -- names of files
-  pub not_directory : (P : Change → Type 0) (what : Place) (e : Errno) (rest : Plan Change) → IsPlace k what → (kind_of k what.0 ≡ Some A_file → IfOk (given k rest) P) → IfOk (given k (refuse_if (is_directory what) e >> rest)) P
+  -- names of what may have several
+  pub not_directory : (P : Change → Type 0) (what : Place) (e : Errno) (rest : Plan Change) → IsPlace k what → (CanBeLinked (kind_of k what.0) → IfOk (given k rest) P) → IfOk (given k (refuse_if (is_directory what) e >> rest)) P
   not_directory P (n, None) e rest place h = absurd place.can_be_named
   not_directory P (n, Some A_pipe) e rest place h = absurd place.can_be_named
   not_directory P (n, Some A_directory) e rest place h = tt
-  not_directory P (n, Some A_file) e rest place h = h (sym place.right)
+  not_directory P (n, Some A_file) e rest place h = h (subst CanBeLinked place.right tt)
+  not_directory P (n, Some A_link) e rest place h = h (subst CanBeLinked place.right tt)
+  not_directory P (n, Some A_fifo) e rest place h = h (subst CanBeLinked place.right tt)
+  not_directory P (n, Some A_socket) e rest place h = h (subst CanBeLinked place.right tt)
 
-  pub link_at : (n : ℕ) (at : Last) → kind_of k n ≡ Some A_file → links k n ≢ 0 → IsLast k at → (o : Option Place) → at.found ≡ o → IfOk (given k (absent o >>= (λ _. changed Done (Name_file at.parent at.name n ∷ [])))) Fine
-  link_at n at file some last (Some place) e = tt
-  link_at n at file some last None e = record {
-    fits = λ can. ((record { parent = last.parent; free = nothing_given k (get (names_of k at.parent) at.name) (sym last.found ∙ e) }, file, some), tt);
+  -- a file and nothing else
+  pub file_alone : (P : Change → Type 0) (what : Place) (e f g : Errno) (rest : Plan Change) → IsPlace k what → (kind_of k what.0 ≡ Some A_file → IfOk (given k rest) P) → IfOk (given k (refuse_if (is_directory what) e >> (refuse_if (is_link what) f >> (refuse_if (is_special what) g >> rest)))) P
+  file_alone P (n, None) e f g rest place h = absurd place.can_be_named
+  file_alone P (n, Some A_pipe) e f g rest place h = absurd place.can_be_named
+  file_alone P (n, Some A_directory) e f g rest place h = tt
+  file_alone P (n, Some A_link) e f g rest place h = tt
+  file_alone P (n, Some A_fifo) e f g rest place h = tt
+  file_alone P (n, Some A_socket) e f g rest place h = tt
+  file_alone P (n, Some A_file) e f g rest place h = h (sym place.right)
+
+  pub link_at : (n : ℕ) (at : Last) → CanBeLinked (kind_of k n) → links k n ≢ 0 → IsLast k at → (o : Option Place) → at.found ≡ o → IfOk (given k (absent o >>= (λ _. changed Done (Name_file at.parent at.name n ∷ [])))) Fine
+  link_at n at linked some last (Some place) e = tt
+  link_at n at linked some last None e = record {
+    fits = λ can. ((record { parent = last.parent; free = nothing_given k (get (names_of k at.parent) at.name) (sym last.found ∙ e) }, linked, some), tt);
     by = (tt, tt);
-    there = (last.parent.directory, (file, tt));
+    there = (last.parent.directory, (linked, tt));
   }
 
   pub unlink_at : (at : Last) → IsLast k at → (o : Option Place) → at.found ≡ o → IfOk (given k (or_refuse ENOENT o >>= (λ what. refuse_if (is_directory what) EPERM >> changed Done (Unname_file at.parent at.name what.0 ∷ [])))) Fine
   unlink_at at last None e = tt
   unlink_at at last (Some what) e =
       let there = given_there k what (get (names_of k at.parent) at.name) (sym last.found ∙ e) in
-      not_directory Fine what EPERM (changed Done (Unname_file at.parent at.name what.0 ∷ [])) (entry_place k well at.parent at.name what (sym last.found ∙ e)) (λ file. record {
-        fits = λ can. (record { parent = last.parent; gives = there.0; kind = file }, tt);
+      not_directory Fine what EPERM (changed Done (Unname_file at.parent at.name what.0 ∷ [])) (entry_place k well at.parent at.name what (sym last.found ∙ e)) (λ linked. record {
+        fits = λ can. (record { parent = last.parent; gives = there.0; kind = linked }, tt);
         by = (tt, tt);
-        there = (last.parent.directory, (file, tt));
+        there = (last.parent.directory, (linked, tt));
       })
 
   -- a name that moves
@@ -86,15 +114,22 @@ module _ (k : Kernel) (well : WellFormed k) (pid : ℕ) (alive : IsAlive k pid) 
     no_ring = ring;
   }
 
+  over_linked : (at onto : Last) (what : Place) (m : ℕ) → IsLast k at → IsLast k onto → CanBeLinked (kind_of k m) → what.0 ≢ m → ((replaced : Replaced) → CanBeReplaced k what.0 (Some m) replaced → CanMove k at.parent at.name onto.parent onto.name what.0 replaced)
+      → Fine (record { reply = Done; edits = Move at.parent at.name onto.parent onto.name what.0 (Over_file m) ∷ [] })
+  over_linked at onto what m last last_onto linked away h = record {
+    fits = λ can. (h (Over_file m) (away, linked, refl), tt);
+    by = (tt, tt);
+    there = (last.parent.directory, (last_onto.parent.directory, (linked, tt)));
+  }
+
   replaced_at : (at onto : Last) (what old : Place) → IsLast k at → IsLast k onto → IsPlace k old → (kind_of k old.0 ≡ old.1) → what.0 ≢ old.0 → ((replaced : Replaced) → CanBeReplaced k what.0 (Some old.0) replaced → CanMove k at.parent at.name onto.parent onto.name what.0 replaced)
       → IfOk (given k (replaced_by_name old.0 (is_directory old) >>= (λ replaced. changed Done (Move at.parent at.name onto.parent onto.name what.0 replaced ∷ [])))) Fine
   replaced_at at onto what (m, None) last last_onto place is away h = absurd place.can_be_named
   replaced_at at onto what (m, Some A_pipe) last last_onto place is away h = absurd place.can_be_named
-  replaced_at at onto what (m, Some A_file) last last_onto place is away h = record {
-    fits = λ can. (h (Over_file m) (away, is, refl), tt);
-    by = (tt, tt);
-    there = (last.parent.directory, (last_onto.parent.directory, (is, tt)));
-  }
+  replaced_at at onto what (m, Some A_file) last last_onto place is away h = over_linked at onto what m last last_onto (subst CanBeLinked (sym is) tt) away h
+  replaced_at at onto what (m, Some A_link) last last_onto place is away h = over_linked at onto what m last last_onto (subst CanBeLinked (sym is) tt) away h
+  replaced_at at onto what (m, Some A_fifo) last last_onto place is away h = over_linked at onto what m last last_onto (subst CanBeLinked (sym is) tt) away h
+  replaced_at at onto what (m, Some A_socket) last last_onto place is away h = over_linked at onto what m last last_onto (subst CanBeLinked (sym is) tt) away h
   replaced_at at onto what (m, Some A_directory) last last_onto place is away h =
       after_bind k Fine (replaced_by_name m true) (λ replaced. changed Done (Move at.parent at.name onto.parent onto.name what.0 replaced ∷ []))
       (allowed k (λ replaced. IfOk (given k (changed Done (Move at.parent at.name onto.parent onto.name what.0 replaced ∷ []))) Fine) (not (is_empty (keys (names_of k m)))) ENOTEMPTY (Give (Over_directory m)) (λ empty. record {
@@ -124,7 +159,10 @@ module _ (k : Kernel) (well : WellFormed k) (pid : ℕ) (alive : IsAlive k pid) 
   ring_by : (from to : List Name) (at onto : Last) (what : Place) → IsPlace k what → IsLedTo k k.root from at → IsLedTo k k.root to onto → IsLast k onto → get (names_of k at.parent) at.name ≡ Some what.0 → (is_directory what && is_below from to) ≡ false → (path : List Name) → Leads k what.0 path onto.parent → ⊥
   ring_by from to at onto (n, None) place led led_onto last gives test = absurd place.can_be_named
   ring_by from to at onto (n, Some A_pipe) place led led_onto last gives test = absurd place.can_be_named
-  ring_by from to at onto (n, Some A_file) place led led_onto last gives test = no_ring_by_kind k n onto.parent (sym place.right) last.parent.directory
+  ring_by from to at onto (n, Some A_file) place led led_onto last gives test = no_ring_by_kind k n onto.parent (subst CanBeLinked place.right tt) last.parent.directory
+  ring_by from to at onto (n, Some A_link) place led led_onto last gives test = no_ring_by_kind k n onto.parent (subst CanBeLinked place.right tt) last.parent.directory
+  ring_by from to at onto (n, Some A_fifo) place led led_onto last gives test = no_ring_by_kind k n onto.parent (subst CanBeLinked place.right tt) last.parent.directory
+  ring_by from to at onto (n, Some A_socket) place led led_onto last gives test = no_ring_by_kind k n onto.parent (subst CanBeLinked place.right tt) last.parent.directory
   ring_by from to at onto (n, Some A_directory) place led led_onto last gives test = no_ring_by_test k well from to at onto n led led_onto gives last.parent.directory test
 
   pub rename_at : (from to : List Name) (at : Last) → IsLast k at → IsLedTo k k.root from at → (o : Option Place) → at.found ≡ o

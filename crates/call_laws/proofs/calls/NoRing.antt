@@ -1,15 +1,15 @@
 -- A rename makes no ring: its test on the two paths sees to it.
 use Rattle.std.proofs.Common.{◌≡◌, ℕ, suc, zero, ◌+◌, ◌≤◌, ◌<◌, Bool, true, false, cond, ◌&&◌, List, [], ◌∷◌, ◌++◌, length, Option, Some, None, IfOk, refl, sym, ap, ap₂, subst, ◌∙◌, arith, eq-eqb, length-append, append_assoc}
 use Rattle.model.specs.FiniteMap.{get}
-use Rattle.model.specs.State.{Name, Kind, A_file, A_directory, A_pipe, Kernel, names_of, kind_of, entry_of, links}
+use Rattle.model.specs.State.{Name, Kind, A_file, A_directory, A_pipe, A_link, A_fifo, A_socket, Kernel, names_of, kind_of, entry_of, links}
 use Rattle.model.specs.Changes.{clear_name}
 use Rattle.model.specs.Plan.{Errno, ENOENT, given, ◌>>=◌, or_refuse}
 use Rattle.model.specs.Walks.{Place, Last, last, last_of}
 use Rattle.model.specs.Paths.{same_name, is_below}
-use Rattle.call_laws.specs.WellFormed.{WellFormed, Leads}
+use Rattle.call_laws.specs.WellFormed.{CanBeLinked, WellFormed, Leads}
 use Rattle.call_laws.proofs.edits.Names.{with_kind, counted, links_unnamed, named_counted}
 use Rattle.call_laws.proofs.edits.NamesAlike.{number_in}
-use Rattle.call_laws.proofs.edits.InodeMarks.{file_is_other}
+use Rattle.call_laws.proofs.edits.InodeMarks.{linked_is_other}
 use Rattle.call_laws.proofs.edits.NamesWell.{has_names_in}
 use Rattle.call_laws.proofs.Maps.{true_is_false}
 use Rattle.call_laws.proofs.calls.Rules.{weaken}
@@ -42,6 +42,12 @@ last_led k n (Some A_file) x [] = tt
 last_led k n (Some A_file) x (y ∷ ys) = tt
 last_led k n (Some A_pipe) x [] = tt
 last_led k n (Some A_pipe) x (y ∷ ys) = tt
+last_led k n (Some A_link) x [] = tt
+last_led k n (Some A_link) x (y ∷ ys) = tt
+last_led k n (Some A_fifo) x [] = tt
+last_led k n (Some A_fifo) x (y ∷ ys) = tt
+last_led k n (Some A_socket) x [] = tt
+last_led k n (Some A_socket) x (y ∷ ys) = tt
 last_led k n (Some A_directory) x [] = record { way = []; same = refl; leads = refl }
 last_led k n (Some A_directory) x (y ∷ ys) = next_led k n x y ys (λ place. last_led k place.0 place.1 y ys) (entry_of k n x) refl
 
@@ -113,6 +119,6 @@ no_ring_by_test k well from to at onto n led led_onto gives dir test path h =
     true_is_false (sym (below first path onto.name) ∙ ap₂ is_below (sym led.same) (sym whole) ∙ test)
 
 -- what is no directory leads to none
-pub no_ring_by_kind : (k : Kernel) (n e : ℕ) → kind_of k n ≡ Some A_file → kind_of k e ≡ Some A_directory → (path : List Name) → Leads k n path e → ⊥
-no_ring_by_kind k n e file dir [] h = file_is_other k e n dir file (sym h)
-no_ring_by_kind k n e file dir (x ∷ xs) h = file_is_other k n n (has_names_in k n x h.0 h.1) file refl
+pub no_ring_by_kind : (k : Kernel) (n e : ℕ) → CanBeLinked (kind_of k n) → kind_of k e ≡ Some A_directory → (path : List Name) → Leads k n path e → ⊥
+no_ring_by_kind k n e linked dir [] h = linked_is_other k e n dir linked (sym h)
+no_ring_by_kind k n e linked dir (x ∷ xs) h = linked_is_other k n n (has_names_in k n x h.0 h.1) linked refl

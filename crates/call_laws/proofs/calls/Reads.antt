@@ -1,20 +1,20 @@
 -- What a call reads is there, and is left by tidying.
-use Rattle.std.proofs.Common.{◌≡◌, ◌≢◌, ℕ, ◌+◌, Bool, true, false, not, ◌&&◌, ◌||◌, ℤ, pos, negsuc, ◌+ℤ◌, List, [], ◌∷◌, ◌++◌, map, length, take, min, Option, Some, None, Result, Ok, Err, IfOk, refl, sym, ◌∙◌, ◌==◌, nat_lt, nat_le, if◌then◌else◌}
-use Rattle.std.specs.List.{AllByRecursion}
+use Rattle.std.proofs.Common.{◌≡◌, ◌≢◌, ℕ, ◌+◌, Bool, true, false, not, ◌&&◌, ◌||◌, ℤ, pos, negsuc, ◌+ℤ◌, List, [], ◌∷◌, ◌++◌, map, length, take, min, Option, Some, None, Result, Ok, Err, IfOk, refl, sym, subst, ◌∙◌, ◌==◌, nat_lt, nat_le, if◌then◌else◌}
+use Rattle.std.specs.List.{AllByRecursion, list_any}
 use Rattle.model.specs.FiniteMap.{get, keys}
-use Rattle.model.specs.State.{Name, Kind, A_file, A_directory, A_pipe, Kernel, names_of, kind_of, entry_of}
-use Rattle.model.specs.Aspects.{Aspect, Entry, Names, Size, Block, Links, Ends, Offset, Front, Back}
-use Rattle.model.specs.Plan.{Errno, EINVAL, ENOENT, EEXIST, EBUSY, EBADF, EPERM, ENOTDIR, ENOTEMPTY, EISDIR, EFBIG, ESPIPE, EPIPE, EAGAIN, Plan, Give, Refuse, Ask, Count_ends, Find_offset, Read_file, Read_pipe, Fit, answer, shown, given, seen, ◌>>=◌, ◌>>◌, ask, refuse_if, or_refuse}
+use Rattle.model.specs.State.{Name, Kind, A_file, A_directory, A_pipe, A_link, A_fifo, A_socket, Kernel, names_of, kind_of, entry_of}
+use Rattle.model.specs.Aspects.{Aspect, Entry, Names, Size, Block, Links, Ends, Offset, Front, Back, Target, Rights}
+use Rattle.model.specs.Plan.{Errno, EINVAL, ENOENT, EEXIST, EBUSY, EBADF, EPERM, ENOTDIR, ENOTEMPTY, EISDIR, EFBIG, ESPIPE, EPIPE, EAGAIN, ELOOP, ENXIO, ENAMETOOLONG, Plan, Give, Refuse, Ask, Count_ends, Find_offset, Read_file, Read_pipe, Fit, answer, shown, given, seen, ◌>>=◌, ◌>>◌, ask, refuse_if, or_refuse}
 use Rattle.model.specs.Paths.{is_empty, is_below, path_names}
-use Rattle.model.specs.Walks.{Place, told, parsed, is_directory, walk, last, last_of, Last}
+use Rattle.model.specs.Walks.{Place, told, parsed, is_directory, is_link, walk, last, last_of, Last}
 use Rattle.model.specs.Changes.{Mode, There, Move, Set_offset, Append, Open_inode, is_held, Replaced, Over_directory}
 use Rattle.ids.specs.Flags.{is_reading, is_writing, is_creating, is_exclusive, is_truncating}
-use Rattle.model.specs.Calls.{OpenFlags, Whence, From_start, From_offset, From_end, Call, Open, Close, Read, Pread, Write, Pwrite, Lseek, Ftruncate, Truncate, Stat, Fstat, Link, Unlink, Rename, Mkdir, Rmdir, List_directory, Dup, Dup2, Open_pipe, Fork, Exit, Done, Descriptor, Count, New_place, Bytes, Slot, own}
-use Rattle.model.specs.Plans.{Change, absent, status, changed, unchanged, slot, slot_at, is_pipe, read_pipe, read_some, place_to_write, write_some, most_moved, offset_named, read_from, write_from, base, sought, replaced_by_name, moved, cut_to, opened, mode, free, first_of_free, duplicated, piped}
+use Rattle.model.specs.Calls.{OpenFlags, Whence, From_start, From_offset, From_end, Call, Open, Close, Read, Pread, Write, Pwrite, Lseek, Ftruncate, Truncate, Stat, Fstat, Link, Unlink, Rename, Mkdir, Rmdir, List_directory, Symlink, Readlink, Lstat, Mknod, Chmod, Chown, Fchmod, Fchown, Dup, Dup2, Open_pipe, Fork, Exit, Done, Descriptor, Count, New_place, Bytes, Slot, own}
+use Rattle.model.specs.Plans.{Change, target_limit, absent, status, is_special, changed, unchanged, slot, slot_at, is_pipe, read_pipe, read_some, place_to_write, write_some, most_moved, offset_named, read_from, write_from, base, sought, replaced_by_name, moved, cut_to, opened, mode, free, first_of_free, duplicated, piped}
 use Rattle.model.specs.Steps.{reads}
 use Rattle.model.proofs.Laws.{all-append, append-all}
 use Rattle.call_laws.specs.Objects.{IsThere}
-use Rattle.call_laws.specs.WellFormed.{WellFormed}
+use Rattle.call_laws.specs.WellFormed.{CanBeLinked, CanBeOpened, WellFormed}
 use Rattle.call_laws.proofs.Maps.{not_none}
 use Rattle.call_laws.proofs.calls.Rules.{whatever, weaken, IsPlace, IsLast, root_place, entry_place, last_of_right, walk_right}
 use Rattle.call_laws.proofs.calls.OwnSlots.{held_at}
@@ -28,6 +28,16 @@ pub record Stays (k : Kernel) (n : ℕ) (what : Kind) : Type 0 where
   pub kind : kind_of k n ≡ Some what
   pub left : reached k n ≡ true
 
+-- an inode that may have several names which tidying leaves
+pub record StaysLinked (k : Kernel) (n : ℕ) : Type 0 where
+  pub linked : CanBeLinked (kind_of k n)
+  pub left : reached k n ≡ true
+
+-- an inode of some kind which tidying leaves
+pub record StaysThere (k : Kernel) (n : ℕ) : Type 0 where
+  pub there : kind_of k n ≢ None
+  pub left : reached k n ≡ true
+
 pub record StaysOpen (k : Kernel) (d : ℕ) : Type 0 where
   pub there : get k.descriptions d ≢ None
   pub held : is_held k d ≡ true
@@ -38,11 +48,13 @@ IsLeft k (Entry d x) = Stays k d A_directory
 IsLeft k (Names d) = Stays k d A_directory
 IsLeft k (Size n) = Stays k n A_file
 IsLeft k (Block n block) = Stays k n A_file
-IsLeft k (Links n) = Stays k n A_file
+IsLeft k (Links n) = StaysLinked k n
 IsLeft k (Ends p) = Stays k p A_pipe
 IsLeft k (Offset d) = StaysOpen k d
 IsLeft k (Front p) = Stays k p A_pipe
 IsLeft k (Back p) = Stays k p A_pipe
+IsLeft k (Target n) = Stays k n A_link
+IsLeft k (Rights n) = StaysThere k n
 
 abbrev pub AllLeft : Kernel → List Aspect → Type 0
 AllLeft k = AllByRecursion (IsLeft k)
@@ -52,11 +64,13 @@ left_there k (Entry d x) h = h.kind
 left_there k (Names d) h = h.kind
 left_there k (Size n) h = h.kind
 left_there k (Block n block) h = h.kind
-left_there k (Links n) h = h.kind
+left_there k (Links n) h = h.linked
 left_there k (Ends p) h = h.kind
 left_there k (Offset d) h = h.there
 left_there k (Front p) h = h.kind
 left_there k (Back p) h = h.kind
+left_there k (Target n) h = h.kind
+left_there k (Rights n) h = h.there
 
 -- composed plans
 seen_bind : {A B : Type 0} (k : Kernel) (m : Plan A) (f : A → Plan B) → AllLeft k (seen k m) → IfOk (given k m) (λ x. AllLeft k (seen k (f x))) → AllLeft k (seen k (m >>= f))
@@ -88,13 +102,28 @@ module _ (k : Kernel) (well : WellFormed k) where
   directory_stays (n, Some A_directory) r e = record { kind = sym r.right; left = rooted_reached k n r.rooted }
   directory_stays (n, Some A_file) r e = absurd cc
   directory_stays (n, Some A_pipe) r e = absurd cc
+  directory_stays (n, Some A_link) r e = absurd cc
+  directory_stays (n, Some A_fifo) r e = absurd cc
+  directory_stays (n, Some A_socket) r e = absurd cc
   directory_stays (n, None) r e = absurd cc
 
-  file_stays : (place : Place) → IsPlace k place → is_directory place ≡ false → Stays k place.0 A_file
-  file_stays (n, Some A_file) r e = record { kind = sym r.right; left = rooted_reached k n r.rooted }
-  file_stays (n, Some A_directory) r e = absurd cc
-  file_stays (n, Some A_pipe) r e = absurd r.can_be_named
-  file_stays (n, None) r e = absurd r.can_be_named
+  file_stays : (place : Place) → IsPlace k place → is_directory place ≡ false → is_link place ≡ false → is_special place ≡ false → Stays k place.0 A_file
+  file_stays (n, Some A_file) r e f g = record { kind = sym r.right; left = rooted_reached k n r.rooted }
+  file_stays (n, Some A_directory) r e f g = absurd cc
+  file_stays (n, Some A_link) r e f g = absurd cc
+  file_stays (n, Some A_fifo) r e f g = absurd cc
+  file_stays (n, Some A_socket) r e f g = absurd cc
+  file_stays (n, Some A_pipe) r e f g = absurd r.can_be_named
+  file_stays (n, None) r e f g = absurd r.can_be_named
+
+  link_stays : (place : Place) → IsPlace k place → is_link place ≡ true → Stays k place.0 A_link
+  link_stays (n, Some A_link) r e = record { kind = sym r.right; left = rooted_reached k n r.rooted }
+  link_stays (n, Some A_file) r e = absurd cc
+  link_stays (n, Some A_directory) r e = absurd cc
+  link_stays (n, Some A_pipe) r e = absurd cc
+  link_stays (n, Some A_fifo) r e = absurd cc
+  link_stays (n, Some A_socket) r e = absurd cc
+  link_stays (n, None) r e = absurd cc
 
   found_seen : {A : Type 0} (d : ℕ) (x : Name) (f : Place → Plan A) → ((place : Place) → IsPlace k place → AllLeft k (seen k (f place))) → (o : Option Place) → entry_of k d x ≡ o → AllLeft k (seen k (or_refuse ENOENT o >>= f))
   found_seen d x f h None e = tt
@@ -107,6 +136,12 @@ module _ (k : Kernel) (well : WellFormed k) where
   last_seen n (Some A_file) x (y ∷ ys) r = tt
   last_seen n (Some A_pipe) x [] r = tt
   last_seen n (Some A_pipe) x (y ∷ ys) r = tt
+  last_seen n (Some A_link) x [] r = tt
+  last_seen n (Some A_link) x (y ∷ ys) r = tt
+  last_seen n (Some A_fifo) x [] r = tt
+  last_seen n (Some A_fifo) x (y ∷ ys) r = tt
+  last_seen n (Some A_socket) x [] r = tt
+  last_seen n (Some A_socket) x (y ∷ ys) r = tt
   last_seen n (Some A_directory) x [] r = (directory_stays (n, Some A_directory) r refl, tt)
   last_seen n (Some A_directory) x (y ∷ ys) r = (directory_stays (n, Some A_directory) r refl, found_seen n x (λ next. last next y ys) (λ place p. last_seen place.0 place.1 y ys p) (entry_of k n x) refl)
 
@@ -119,6 +154,9 @@ module _ (k : Kernel) (well : WellFormed k) where
   walk_seen n None (x ∷ xs) r = tt
   walk_seen n (Some A_file) (x ∷ xs) r = tt
   walk_seen n (Some A_pipe) (x ∷ xs) r = tt
+  walk_seen n (Some A_link) (x ∷ xs) r = tt
+  walk_seen n (Some A_fifo) (x ∷ xs) r = tt
+  walk_seen n (Some A_socket) (x ∷ xs) r = tt
   walk_seen n (Some A_directory) (x ∷ xs) r = (directory_stays (n, Some A_directory) r refl, found_seen n x (λ next. walk next xs) (λ place p. walk_seen place.0 place.1 xs p) (entry_of k n x) refl)
 
   -- a plan that begins with a last name, a walk, or what is found
@@ -140,11 +178,29 @@ module _ (k : Kernel) (well : WellFormed k) where
   absent_seen None c = tt
   absent_seen (Some place) c = tt
 
+  -- an inode whose rights are told
+  some_stays : (n : ℕ) (what : Kind) → Some what ≡ kind_of k n → reached k n ≡ true → StaysThere k n
+  some_stays n what right e = record { there = λ none. not_none what (right ∙ none); left = e }
+
+  place_there : (place : Place) → IsPlace k place → StaysThere k place.0
+  place_there (n, None) r = absurd r.can_be_named
+  place_there (n, Some what) r = some_stays n what r.right (rooted_reached k n r.rooted)
+
+  slot_there : (s : Slot) → IsOpen k s → StaysThere k s.inode
+  slot_there s held = by_kind s.kind held.kind held.can_be_opened
+    where
+      by_kind : (o : Option Kind) → o ≡ kind_of k s.inode → CanBeOpened o → StaysThere k s.inode
+      by_kind None e h = absurd h
+      by_kind (Some what) e h = some_stays s.inode what e held.reached
+
   status_seen : (place : Place) → place.1 ≡ kind_of k place.0 → reached k place.0 ≡ true → AllLeft k (seen k (status place))
   status_seen (n, None) right e = tt
-  status_seen (n, Some A_file) right e = (record { kind = sym right; left = e }, (record { kind = sym right; left = e }, tt))
-  status_seen (n, Some A_directory) right e = tt
-  status_seen (n, Some A_pipe) right e = tt
+  status_seen (n, Some A_file) right e = (record { kind = sym right; left = e }, (record { linked = subst CanBeLinked right tt; left = e }, (some_stays n A_file right e, tt)))
+  status_seen (n, Some A_directory) right e = (some_stays n A_directory right e, tt)
+  status_seen (n, Some A_pipe) right e = (some_stays n A_pipe right e, tt)
+  status_seen (n, Some A_link) right e = (record { kind = sym right; left = e }, (record { linked = subst CanBeLinked right tt; left = e }, (some_stays n A_link right e, tt)))
+  status_seen (n, Some A_fifo) right e = (record { linked = subst CanBeLinked right tt; left = e }, (some_stays n A_fifo right e, tt))
+  status_seen (n, Some A_socket) right e = (record { linked = subst CanBeLinked right tt; left = e }, (some_stays n A_socket right e, tt))
 
   moved_seen : (at : Last) (what : Place) (onto : Last) → IsLast k onto → (o : Option Place) → onto.found ≡ o → AllLeft k (seen k (moved at what onto o))
   moved_seen at what onto last None e = tt
@@ -264,7 +320,8 @@ module _ (k : Kernel) (well : WellFormed k) where
   opened_seen : (pid : ℕ) (call : Call) (flags : OpenFlags) (f : ℕ) (at : Last) → IsLast k at → (o : Option Place) → at.found ≡ o → AllLeft k (seen k (opened (own k pid call) flags f at o))
   opened_seen pid call flags f at last None e = refusal k (not (is_creating flags)) ENOENT _ (λ _. tt)
   opened_seen pid call flags f at last (Some place) e = refusal k (is_creating flags && is_exclusive flags) EEXIST _ (λ _. refusal k (is_directory place) EISDIR _ (λ file.
-      cut_seen pid (mode flags) f place.0 (file_stays place (last_place at last place e) file) (is_truncating flags)))
+      refusal k (is_link place) ELOOP _ (λ no_link. refusal k (is_special place) ENXIO _ (λ plain.
+      cut_seen pid (mode flags) f place.0 (file_stays place (last_place at last place e) file no_link plain) (is_truncating flags)))))
 
 pub calls_see : (k : Kernel) (pid : ℕ) (call : Call) → WellFormed k → AllLeft k (reads k pid call)
 calls_see k pid (Open path flags) well =
@@ -284,8 +341,8 @@ calls_see k pid (Pwrite f bytes offset) well = with_slot k well pid (Pwrite f by
 calls_see k pid (Lseek f move whence) well = with_slot k well pid (Lseek f move whence) f _ (λ s held. refusal k (is_pipe s.kind) ESPIPE _ (λ file.
     seen_bind k (base s whence) _ (base_seen k well s whence held file) (whatever (given k (base s whence)) (λ place. sought_seen k well s (pos place +ℤ move)))))
 calls_see k pid (Ftruncate f len) well = with_slot k well pid (Ftruncate f len) f _ (λ s held. refusal k (not s.writing) EBADF _ (λ _. refusal k (is_pipe s.kind) EINVAL _ (λ file. refusal k (nat_lt k.largest len) EFBIG _ (λ _. (open_stays k well s held file, tt)))))
-calls_see k pid (Truncate path len) well = with_path k path _ (λ names. with_walk k well names _ (λ place r. refusal k (is_directory place) EISDIR _ (λ file. refusal k (nat_lt k.largest len) EFBIG _ (λ _. (file_stays k well place r file, tt)))))
-calls_see k pid (Stat path) well = with_path k path _ (λ names. with_walk k well names _ (λ place r. status_seen k well place r.right (rooted_reached k place.0 r.rooted)))
+calls_see k pid (Truncate path len) well = with_path k path _ (λ names. with_walk k well names _ (λ place r. refusal k (is_directory place) EISDIR _ (λ file. refusal k (is_link place) ELOOP _ (λ no_link. refusal k (is_special place) EINVAL _ (λ plain. refusal k (nat_lt k.largest len) EFBIG _ (λ _. (file_stays k well place r file no_link plain, tt)))))))
+calls_see k pid (Stat path) well = with_path k path _ (λ names. with_walk k well names _ (λ place r. refusal k (is_link place) ELOOP _ (λ _. status_seen k well place r.right (rooted_reached k place.0 r.rooted))))
 calls_see k pid (Fstat f) well = with_slot k well pid (Fstat f) f _ (λ s held. status_seen k well (s.inode, s.kind) held.kind held.reached)
 calls_see k pid (Link old path) well = with_path k old _ (λ from. with_path k path _ (λ to. with_walk k well from _ (λ what r. refusal k (is_directory what) EPERM _ (λ _.
     with_last k well EEXIST to _ (λ at last. absent_seen k well at.found _)))))
@@ -296,7 +353,19 @@ calls_see k pid (Rename old path) well = with_path k old _ (λ from. with_path k
 calls_see k pid (Mkdir path) well = with_path k path _ (λ names. with_last k well EEXIST names _ (λ at last. absent_seen k well at.found _))
 calls_see k pid (Rmdir path) well = with_path k path _ (λ names. with_last k well EBUSY names _ (λ at last. with_found k well at last _ (λ place r.
     refusal k (not (is_directory place)) ENOTDIR _ (λ dir. (directory_stays k well place r (not-false (is_directory place) dir), refusal k (not (is_empty (keys (names_of k place.0)))) ENOTEMPTY _ (λ _. tt)))) at.found refl))
-calls_see k pid (List_directory path) well = with_path k path _ (λ names. with_walk k well names _ (λ place r. refusal k (not (is_directory place)) ENOTDIR _ (λ dir. (directory_stays k well place r (not-false (is_directory place) dir), tt))))
+calls_see k pid (List_directory path) well = with_path k path _ (λ names. with_walk k well names _ (λ place r. refusal k (is_link place) ELOOP _ (λ _. refusal k (not (is_directory place)) ENOTDIR _ (λ dir. (directory_stays k well place r (not-false (is_directory place) dir), tt)))))
+calls_see k pid (Symlink target path) well =
+    refusal k (is_empty target) ENOENT _ (λ _.
+    refusal k (nat_lt target_limit (length target)) ENAMETOOLONG _ (λ _.
+    refusal k (list_any (λ b. b == 0) target) EINVAL _ (λ _.
+    with_path k path _ (λ names. with_last k well EEXIST names _ (λ at last. absent_seen k well at.found _)))))
+calls_see k pid (Readlink path) well = with_path k path _ (λ names. with_walk k well names _ (λ place r. refusal k (not (is_link place)) EINVAL _ (λ link. (link_stays k well place r (not-false (is_link place) link), tt))))
+calls_see k pid (Lstat path) well = with_path k path _ (λ names. with_walk k well names _ (λ place r. status_seen k well place r.right (rooted_reached k place.0 r.rooted)))
+calls_see k pid (Mknod path special) well = with_path k path _ (λ names. with_last k well EEXIST names _ (λ at last. absent_seen k well at.found _))
+calls_see k pid (Chmod path permissions) well = with_path k path _ (λ names. with_walk k well names _ (λ place r. refusal k (is_link place) ELOOP _ (λ _. (place_there k well place r, tt))))
+calls_see k pid (Chown path owner) well = with_path k path _ (λ names. with_walk k well names _ (λ place r. (place_there k well place r, tt)))
+calls_see k pid (Fchmod f permissions) well = with_slot k well pid (Fchmod f permissions) f _ (λ s held. (slot_there k well s held, tt))
+calls_see k pid (Fchown f owner) well = with_slot k well pid (Fchown f owner) f _ (λ s held. (slot_there k well s held, tt))
 calls_see k pid (Dup f) well = with_slot k well pid (Dup f) f _ (λ s held. duplicated_seen k well pid (Dup f) s (free (own k pid (Dup f))))
 calls_see k pid (Dup2 f g) well = with_slot k well pid (Dup2 f g) f _ (λ s held. refusal k (nat_lt 63 g) EBADF _ (λ _. either k (f == g) (unchanged (Descriptor f)) _ (λ _. tt) (λ _. tt)))
 calls_see k pid Open_pipe well = piped_seen k well pid Open_pipe (free (own k pid Open_pipe))

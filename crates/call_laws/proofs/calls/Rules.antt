@@ -1,6 +1,6 @@
 -- What holds of the value that a plan gives.
 use Rattle.std.proofs.Common.{◌≡◌, ℕ, ◌<◌, arith, Bool, true, false, if◌then◌else◌, List, [], ◌∷◌, Option, Some, None, Result, Ok, Err, IfOk, refl, sym, ap, subst}
-use Rattle.model.specs.State.{Name, Kind, A_file, A_directory, A_pipe, Kernel, kind_of, names_of, entry_of, links}
+use Rattle.model.specs.State.{Name, Kind, A_file, A_directory, A_pipe, A_link, A_fifo, A_socket, Kernel, kind_of, names_of, entry_of, links}
 use Rattle.model.specs.FiniteMap.{get}
 use Rattle.call_laws.proofs.edits.Names.{with_kind, named_counted}
 use Rattle.call_laws.specs.WellFormed.{CanBeNamed, IsRooted, WellFormed}
@@ -69,6 +69,12 @@ last_right k well n (Some A_file) x [] e = tt
 last_right k well n (Some A_file) x (y ∷ ys) e = tt
 last_right k well n (Some A_pipe) x [] e = tt
 last_right k well n (Some A_pipe) x (y ∷ ys) e = tt
+last_right k well n (Some A_link) x [] e = tt
+last_right k well n (Some A_link) x (y ∷ ys) e = tt
+last_right k well n (Some A_fifo) x [] e = tt
+last_right k well n (Some A_fifo) x (y ∷ ys) e = tt
+last_right k well n (Some A_socket) x [] e = tt
+last_right k well n (Some A_socket) x (y ∷ ys) e = tt
 last_right k well n (Some A_directory) x [] e = record { parent = record { directory = sym e.right; rooted = e.rooted }; found = refl }
 last_right k well n (Some A_directory) x (y ∷ ys) e = next_right k well n x (IsLast k) (λ next. last next y ys) (λ place right. last_right k well place.0 place.1 y ys right) (entry_of k n x) refl
 
@@ -81,4 +87,7 @@ walk_right k well n what [] e = e
 walk_right k well n None (x ∷ xs) e = tt
 walk_right k well n (Some A_file) (x ∷ xs) e = tt
 walk_right k well n (Some A_pipe) (x ∷ xs) e = tt
+walk_right k well n (Some A_link) (x ∷ xs) e = tt
+walk_right k well n (Some A_fifo) (x ∷ xs) e = tt
+walk_right k well n (Some A_socket) (x ∷ xs) e = tt
 walk_right k well n (Some A_directory) (x ∷ xs) e = next_right k well n x (IsPlace k) (λ next. walk next xs) (λ place right. walk_right k well place.0 place.1 xs right) (entry_of k n x) refl

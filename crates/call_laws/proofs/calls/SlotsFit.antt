@@ -3,7 +3,7 @@ use Rattle.std.proofs.Common.{◌≡◌, ◌≢◌, ℕ, suc, ◌+◌, ◌<◌, 
 use Rattle.std.specs.List.{AllByRecursion}
 use Rattle.model.specs.FiniteMap.{get}
 use Rattle.model.specs.State.{A_file, A_directory, A_pipe, Kernel, File, Process, kind_of, file_of, names_of, entry_of, links, mapped}
-use Rattle.model.specs.Plan.{Give, given, ◌>>=◌, ◌>>◌, answer, Measure, refuse_if, ENOENT, EEXIST, EISDIR, EBADF, EAGAIN}
+use Rattle.model.specs.Plan.{Give, given, ◌>>=◌, ◌>>◌, answer, Measure, refuse_if, ENOENT, EEXIST, EISDIR, ELOOP, ENXIO, EBADF, EAGAIN}
 use Rattle.model.specs.Walks.{Place, Last}
 use Rattle.model.specs.Changes.{Mode, There, Made, Make_file, Cut, Open_inode, Share_slot, Clear_slot, End_process, marks, applied, set_inode, set_name, sized}
 use Rattle.ids.specs.Flags.{is_creating, is_exclusive, is_truncating}
@@ -23,7 +23,7 @@ use Rattle.call_laws.proofs.calls.Rules.{allowed, IsLast, entry_place}
 use Rattle.call_laws.proofs.calls.OwnSlots.{slot_in, Held, slot_at_is, number_in_slot, pipe_listed, pipes_listed, among_left, among_right, IsFreeIn, free_slot}
 use Rattle.call_laws.proofs.calls.OpenSlots.{ArePipes, slot_pipes, slot_at_pipes, own_pipes}
 use Rattle.call_laws.proofs.calls.WillFit.{WillFit, nowhere_at, listed_at, second_third, unused_of, nothing_given, given_there, ends_there, unchanged_fits}
-use Rattle.call_laws.proofs.calls.NamesFit.{not_directory}
+use Rattle.call_laws.proofs.calls.NamesFit.{file_alone}
 use Rattle.call_laws.proofs.calls.ContentsFit.{cut_there}
 
 module _ (k : Kernel) (well : WellFormed k) (pid : ℕ) (alive : IsAlive k pid) (inside : Bool) (chosen : List ℕ) where
@@ -204,7 +204,7 @@ module _ (k : Kernel) (well : WellFormed k) (pid : ℕ) (alive : IsAlive k pid) 
       let there = given_there k what (get (names_of k at.parent) at.name) (sym last.found ∙ e) in
       let some : 0 < links k what.0 = named_counted k at.parent at.name what.0 there.0 in
       allowed k Fine (is_creating flags && is_exclusive flags) EEXIST _ (λ _.
-      not_directory k well pid alive inside chosen Fine what EISDIR _ (entry_place k well at.parent at.name what (sym last.found ∙ e)) (λ file.
+      file_alone k well pid alive inside chosen Fine what EISDIR ELOOP ENXIO _ (entry_place k well at.parent at.name what (sym last.found ∙ e)) (λ file.
       open_old call (mode flags) f what.0 is_free file (λ none. absurd (omega arith)) (is_truncating flags)))
 
   pub first_free : (P : ℕ → Type 0) (fs : List ℕ) → AllByRecursion P fs → IfOk (given k (first_of_free fs)) P

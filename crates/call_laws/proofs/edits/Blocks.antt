@@ -2,12 +2,12 @@
 use Rattle.std.proofs.Common.{◌≡◌, ◌≢◌, ℕ, ◌+◌, ◌-◌, ◌/◌, ◌<◌, ◌≤◌, max, List, ◌++◌, length, get_or, Some, refl, sym, ap, subst, ◌∙◌, arith, inl, inr}
 use Rattle.std.proofs.lemmas.Bool.{cases_eq, cases_lt}
 use Rattle.std.proofs.lemmas.List.{get_or_past}
-use Rattle.model.specs.FiniteMap.{keys}
-use Rattle.model.specs.State.{A_file, Kernel, File, file_of, pipe_of, kind_of, ends, file_of_inode, pipe_of_inode}
-use Rattle.model.specs.Aspects.{Aspect, Entry, Names, Size, Block, Links, Ends, Offset, Front, Back, SameBlock, Keeps}
+use Rattle.model.specs.FiniteMap.{get, keys}
+use Rattle.model.specs.State.{A_file, Kernel, File, file_of, pipe_of, target_of, kind_of, ends, file_of_inode, pipe_of_inode, target_of_inode, rights_or}
+use Rattle.model.specs.Aspects.{Aspect, Entry, Names, Size, Block, Links, Ends, Offset, Front, Back, Target, Rights, SameBlock, Keeps}
 use Rattle.model.specs.Changes.{set_inode, sized, written}
 use Rattle.model.proofs.Laws.{unchanged_by, length-sized, sized_at, length-written, written_before, written_in, written_behind}
-use Rattle.call_laws.proofs.edits.Contents.{HasBytes, has_bytes, here_by, there_by, entry_same, no_names_file, no_pipe_file}
+use Rattle.call_laws.proofs.edits.Contents.{HasBytes, has_bytes, here_by, there_by, entry_same, no_names_file, no_pipe_file, no_target_file}
 
 -- the same bytes written into two files keep each block alike
 pub same_block : (xs ys bytes : List ℕ) (place block : ℕ) → SameBlock block ys xs → SameBlock block (written ys place bytes) (written xs place bytes)
@@ -50,12 +50,20 @@ file_keeps now later n new other e f long blocks a = by_aspect a
     pipes_two : (t : ℕ) → pipe_of (set_inode n (File other) later) t ≡ pipe_of later t
     pipes_two = unchanged_by pipe_of_inode later n (File other) (no_pipe_file _ f)
 
+    targets_one : (t : ℕ) → target_of (set_inode n (File new) now) t ≡ target_of now t
+    targets_one = unchanged_by target_of_inode now n (File new) (no_target_file _ e)
+
+    targets_two : (t : ℕ) → target_of (set_inode n (File other) later) t ≡ target_of later t
+    targets_two = unchanged_by target_of_inode later n (File other) (no_target_file _ f)
+
     by_aspect : (a : Aspect) → Keeps now later a → Keeps (set_inode n (File new) now) (set_inode n (File other) later) a
     by_aspect (Entry d x) h = entry_same later _ two d x ∙ h ∙ sym (entry_same now _ one d x)
     by_aspect (Names d) h = ap keys (two.names d) ∙ h ∙ sym (ap keys (one.names d))
     by_aspect (Links m) h = two.links m ∙ h ∙ sym (one.links m)
     by_aspect (Ends q) h = h
     by_aspect (Offset d) h = h
+    by_aspect (Target m) h = targets_two m ∙ h ∙ sym (targets_one m)
+    by_aspect (Rights m) h = ap (rights_or (get later.rights m)) (two.kinds m) ∙ h ∙ sym (ap (rights_or (get now.rights m)) (one.kinds m))
     by_aspect (Front q) h = (h.0, pipes_two q ∙ h.1 ∙ ap (λ b. b ++ h.0) (sym (pipes_one q)))
     by_aspect (Back q) h = (h.0, pipes_one q ∙ h.1 ∙ ap (λ b. h.0 ++ b) (sym (pipes_two q)))
     by_aspect (Size m) h = elim (cases_eq m n) [

@@ -3,8 +3,8 @@ use Rattle.std.proofs.Common.{◌≡◌, ◌≢◌, ℕ, ◌+◌, ◌≤◌, Lis
 use Rattle.model.specs.FiniteMap.{FinMap, get, empty, keys}
 use Rattle.std.proofs.lemmas.Bool.{cases_eq}
 use Rattle.std.proofs.lemmas.List.{drop-append-le}
-use Rattle.model.specs.State.{Name, name_cmp, A_file, A_pipe, Kernel, Inode, File, Directory, Pipe, kind, names_of, file_of, pipe_of, kind_of, entry_of, links, ends, mapped, names_of_inode, file_of_inode, pipe_of_inode}
-use Rattle.model.specs.Aspects.{Aspect, Entry, Names, Size, Block, Links, Ends, Offset, Front, Back, Keeps}
+use Rattle.model.specs.State.{Name, name_cmp, A_file, A_pipe, Kernel, Inode, File, Directory, Pipe, Fixed, Link_to, Fifo, Socket, kind, names_of, file_of, pipe_of, target_of, kind_of, entry_of, links, ends, mapped, names_of_inode, file_of_inode, pipe_of_inode, target_of_inode, rights_or}
+use Rattle.model.specs.Aspects.{Aspect, Entry, Names, Size, Block, Links, Ends, Offset, Front, Back, Target, Rights, Keeps}
 use Rattle.model.specs.Changes.{set_inode}
 use Rattle.model.proofs.Laws.{same_by_ends, get_same, get_other, unchanged_by, given_in, links-set_inode}
 use Rattle.call_laws.proofs.edits.Names.{with_kind, same_kinds}
@@ -20,24 +20,46 @@ no_names_file None e = refl
 no_names_file (Some (File bytes)) e = refl
 no_names_file (Some (Directory names)) e = absurd cc
 no_names_file (Some (Pipe bytes)) e = refl
+no_names_file (Some (Fixed fixed)) e = refl
 
 pub no_names_pipe : (x : Option Inode) → mapped kind x ≡ Some A_pipe → empty ≡ names_of_inode x
 no_names_pipe None e = refl
 no_names_pipe (Some (File bytes)) e = refl
 no_names_pipe (Some (Directory names)) e = absurd cc
 no_names_pipe (Some (Pipe bytes)) e = refl
+no_names_pipe (Some (Fixed fixed)) e = refl
 
 pub no_pipe_file : (x : Option Inode) → mapped kind x ≡ Some A_file → [] ≡ pipe_of_inode x
 no_pipe_file None e = refl
 no_pipe_file (Some (File bytes)) e = refl
 no_pipe_file (Some (Directory names)) e = refl
 no_pipe_file (Some (Pipe bytes)) e = absurd cc
+no_pipe_file (Some (Fixed fixed)) e = refl
 
 pub no_file_pipe : (x : Option Inode) → mapped kind x ≡ Some A_pipe → [] ≡ file_of_inode x
 no_file_pipe None e = refl
 no_file_pipe (Some (File bytes)) e = absurd cc
 no_file_pipe (Some (Directory names)) e = refl
 no_file_pipe (Some (Pipe bytes)) e = refl
+no_file_pipe (Some (Fixed fixed)) e = refl
+
+pub no_target_file : (x : Option Inode) → mapped kind x ≡ Some A_file → [] ≡ target_of_inode x
+no_target_file None e = refl
+no_target_file (Some (File bytes)) e = refl
+no_target_file (Some (Directory names)) e = refl
+no_target_file (Some (Pipe bytes)) e = refl
+no_target_file (Some (Fixed (Link_to target))) e = absurd cc
+no_target_file (Some (Fixed Fifo)) e = refl
+no_target_file (Some (Fixed Socket)) e = refl
+
+pub no_target_pipe : (x : Option Inode) → mapped kind x ≡ Some A_pipe → [] ≡ target_of_inode x
+no_target_pipe None e = refl
+no_target_pipe (Some (File bytes)) e = refl
+no_target_pipe (Some (Directory names)) e = refl
+no_target_pipe (Some (Pipe bytes)) e = refl
+no_target_pipe (Some (Fixed (Link_to target))) e = absurd cc
+no_target_pipe (Some (Fixed Fifo)) e = refl
+no_target_pipe (Some (Fixed Socket)) e = refl
 
 pub has_bytes : (k : Kernel) (n : ℕ) (new : Inode) → Some (kind new) ≡ kind_of k n → names_of_inode (Some new) ≡ empty → empty ≡ names_of k n → HasBytes k (set_inode n new k)
 has_bytes k n new same none none_before = record {
@@ -79,6 +101,12 @@ pipe_keeps now later p new other e f front back a = by_aspect a
     files_two : (t : ℕ) → file_of (set_inode p (Pipe other) later) t ≡ file_of later t
     files_two = unchanged_by file_of_inode later p (Pipe other) (no_file_pipe _ f)
 
+    targets_one : (t : ℕ) → target_of (set_inode p (Pipe new) now) t ≡ target_of now t
+    targets_one = unchanged_by target_of_inode now p (Pipe new) (no_target_pipe _ e)
+
+    targets_two : (t : ℕ) → target_of (set_inode p (Pipe other) later) t ≡ target_of later t
+    targets_two = unchanged_by target_of_inode later p (Pipe other) (no_target_pipe _ f)
+
     by_aspect : (a : Aspect) → Keeps now later a → Keeps (set_inode p (Pipe new) now) (set_inode p (Pipe other) later) a
     by_aspect (Entry d x) h = entry_same later _ two d x ∙ h ∙ sym (entry_same now _ one d x)
     by_aspect (Names d) h = ap keys (two.names d) ∙ h ∙ sym (ap keys (one.names d))
@@ -87,6 +115,8 @@ pipe_keeps now later p new other e f front back a = by_aspect a
     by_aspect (Links n) h = two.links n ∙ h ∙ sym (one.links n)
     by_aspect (Ends q) h = h
     by_aspect (Offset d) h = h
+    by_aspect (Target n) h = targets_two n ∙ h ∙ sym (targets_one n)
+    by_aspect (Rights n) h = ap (rights_or (get later.rights n)) (two.kinds n) ∙ h ∙ sym (ap (rights_or (get now.rights n)) (one.kinds n))
     by_aspect (Front q) h = elim (cases_eq q p) [
       | inl is ↦
           let kept = front (subst (λ q. Keeps now later (Front q)) is h) in

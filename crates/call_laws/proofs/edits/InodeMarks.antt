@@ -7,17 +7,18 @@ use Rattle.model.specs.FiniteMap.{FinMap, get, keys, insert, remove, get-remove}
 use Rattle.std.specs.Cmp.Lexicographic.{nat_list_cmp_total}
 use Rattle.std.proofs.lemmas.Bool.{cases_eq, cases_lt, false_from_ne_true}
 use Rattle.std.proofs.lemmas.List.{get_or_past}
-use Rattle.model.specs.State.{Name, name_cmp, A_file, A_directory, A_pipe, Kernel, Inode, File, Directory, Pipe, kind, names_of, file_of, pipe_of, kind_of, entry_of, links, ends, file_of_inode, pipe_of_inode}
-use Rattle.model.specs.Aspects.{Aspect, Entry, Names, Size, Block, Links, Ends, Offset, Front, Back, SameBlock, Keeps}
+use Rattle.model.specs.State.{Name, name_cmp, Kind, A_file, A_directory, A_pipe, A_link, A_fifo, A_socket, Kernel, Inode, File, Directory, Pipe, kind, mapped, names_of, file_of, pipe_of, target_of, kind_of, entry_of, links, ends, file_of_inode, pipe_of_inode, target_of_inode, rights_or}
+use Rattle.model.specs.Aspects.{Aspect, Entry, Names, Size, Block, Links, Ends, Offset, Front, Back, Target, Rights, SameBlock, Keeps}
 use Rattle.model.specs.Plan.{blocks}
 use Rattle.model.specs.Changes.{Put_bytes, Cut, marks, set_inode, set_name, clear_name, sized, written, file_replaced}
 use Rattle.model.specs.Changes.{Replaced, Over_nothing, Over_file, Over_directory}
 use Rattle.model.specs.Steps.{IsNowhere}
 use Rattle.call_laws.specs.Objects.{IsThere, LeavesAlone}
+use Rattle.call_laws.specs.WellFormed.{CanBeLinked, CanBeNamed}
 use Rattle.call_laws.specs.Fits.{CanBeReplaced}
 use Rattle.model.proofs.Laws.{all-append, all-map, in_blocks, name_exact, tie, unchanged_by, length-sized, sized_at, length-written}
 use Rattle.call_laws.proofs.edits.Names.{with_kind, has_names, one, counted, links_named, links_unnamed, entry_named, entry_unnamed, entry_there}
-use Rattle.call_laws.proofs.edits.Contents.{here_by, there_by, HasBytes, has_bytes, entry_same, no_names_file, no_names_pipe, no_pipe_file, no_file_pipe}
+use Rattle.call_laws.proofs.edits.Contents.{here_by, there_by, HasBytes, has_bytes, entry_same, no_names_file, no_names_pipe, no_pipe_file, no_file_pipe, no_target_file, no_target_pipe}
 use Rattle.call_laws.proofs.edits.Blocks.{cut_past, other_block}
 use Rattle.call_laws.proofs.Maps.{some_same}
 use Rattle.call_laws.proofs.edits.NamesAlike.{IsNew, not_new, kept_kind}
@@ -32,6 +33,8 @@ keeps_on k mid after (Ends p) f g = (g.0 ∙ f.0, g.1 ∙ f.1)
 keeps_on k mid after (Offset d) f g = g ∙ f
 keeps_on k mid after (Front p) f g = (f.0 ++ g.0, g.1 ∙ ap (λ bytes. bytes ++ g.0) f.1 ∙ append_assoc (pipe_of k p) f.0 g.0)
 keeps_on k mid after (Back p) f g = (f.0 ++ g.0, f.1 ∙ ap (λ bytes. f.0 ++ bytes) g.1 ∙ sym (append_assoc f.0 g.0 (pipe_of after p)))
+keeps_on k mid after (Target n) f g = g ∙ f
+keeps_on k mid after (Rights n) f g = g ∙ f
 
 -- a state keeps all aspects of its own
 pub keeps_self : (k : Kernel) (a : Aspect) → Keeps k k a
@@ -44,23 +47,27 @@ keeps_self k (Ends p) = (refl, refl)
 keeps_self k (Offset d) = refl
 keeps_self k (Front p) = ([], sym (append-nil (pipe_of k p)))
 keeps_self k (Back p) = ([], refl)
+keeps_self k (Target n) = refl
+keeps_self k (Rights n) = refl
 
 -- kinds alone differ, and not of what is named
 kinds_alike : (k after : Kernel) (n : ℕ) → ((t : ℕ) → t ≢ n → kind_of after t ≡ kind_of k t) → (o : Option ℕ) → (o ≢ Some n) → with_kind after o ≡ with_kind k o
 kinds_alike k after n same None h = refl
 kinds_alike k after n same (Some t) h = λ i. Some (t, same t (λ e. h (ap Some e)) i)
 
-pub new_marks : (k : Kernel) (n : ℕ) (new : Inode) → IsNowhere k n → IsNew k (set_inode n new k) n (kind new) → (a : Aspect) → Keeps k (set_inode n new k) a
+pub new_marks : (k : Kernel) (n : ℕ) (new : Inode) → IsNowhere k n → IsNew k (set_inode n new k) n (kind new) → (a : Aspect) → IsThere k a → Keeps k (set_inode n new k) a
 unfolding ends
-new_marks k n new nowhere f (Entry d x) = ap (λ (ns : FinMap name_cmp ℕ). with_kind (set_inode n new k) (get ns x)) (f.names d) ∙ kinds_alike k (set_inode n new k) n f.there (get (names_of k d) x) (nowhere.unnamed d x)
-new_marks k n new nowhere f (Names d) = ap keys (f.names d)
-new_marks k n new nowhere f (Size m) = ap length (f.files m)
-new_marks k n new nowhere f (Block m block) = λ i is. ap (λ bytes. get_or bytes i 0) (f.files m)
-new_marks k n new nowhere f (Links m) = f.links m
-new_marks k n new nowhere f (Ends p) = (refl, refl)
-new_marks k n new nowhere f (Offset d) = refl
-new_marks k n new nowhere f (Front p) = ([], f.pipes p ∙ sym (append-nil (pipe_of k p)))
-new_marks k n new nowhere f (Back p) = ([], sym (f.pipes p))
+new_marks k n new nowhere f (Entry d x) there = ap (λ (ns : FinMap name_cmp ℕ). with_kind (set_inode n new k) (get ns x)) (f.names d) ∙ kinds_alike k (set_inode n new k) n f.there (get (names_of k d) x) (nowhere.unnamed d x)
+new_marks k n new nowhere f (Names d) there = ap keys (f.names d)
+new_marks k n new nowhere f (Size m) there = ap length (f.files m)
+new_marks k n new nowhere f (Block m block) there = λ i is. ap (λ bytes. get_or bytes i 0) (f.files m)
+new_marks k n new nowhere f (Links m) there = f.links m
+new_marks k n new nowhere f (Ends p) there = (refl, refl)
+new_marks k n new nowhere f (Offset d) there = refl
+new_marks k n new nowhere f (Front p) there = ([], f.pipes p ∙ sym (append-nil (pipe_of k p)))
+new_marks k n new nowhere f (Back p) there = ([], sym (f.pipes p))
+new_marks k n new nowhere f (Target m) there = there_by target_of_inode k n new m (not_new k n m A_link nowhere.inode there)
+new_marks k n new nowhere f (Rights m) there = ap (rights_or (get k.rights m)) (f.there m (λ same. there (ap (kind_of k) same ∙ ap (mapped kind) nowhere.inode)))
 
 -- what is asked where the aspect is of links
 abbrev pub ForLinks : Aspect → (ℕ → Type 0) → Type 0
@@ -89,17 +96,30 @@ names_mark k d x names is other (Ends p) counts alone = (refl, refl)
 names_mark k d x names is other (Offset t) counts alone = refl
 names_mark k d x names is other (Front p) counts alone = ([], (has_names k d names is).pipes p ∙ sym (append-nil (pipe_of k p)))
 names_mark k d x names is other (Back p) counts alone = ([], sym ((has_names k d names is).pipes p))
+names_mark k d x names is other (Target m) counts alone = (has_names k d names is).targets m
+names_mark k d x names is other (Rights m) counts alone = ap (rights_or (get k.rights m)) ((has_names k d names is).kinds m)
 
 -- a test of two names that differ
 pub names_apart : (y x : Name) → y ≢ x → eq_by_cmp name_cmp y x ≡ false
 names_apart y x h = false_from_ne_true (eq_by_cmp name_cmp y x) (λ e. h (name_exact y x (tie (name_cmp y x) e)))
 
--- a file is not a directory
-pub file_is_other : (k : Kernel) (n m : ℕ) → kind_of k n ≡ Some A_directory → kind_of k m ≡ Some A_file → n ≢ m
-file_is_other k n m e f same = differ (sym e ∙ ap (kind_of k) same ∙ f)
-  where
-    differ : Some A_directory ≡ Some A_file → ⊥
-    differ h = absurd cc
+-- what may have several names is no directory, may be named, and is of some kind
+pub linked_is_other : (k : Kernel) (n m : ℕ) → kind_of k n ≡ Some A_directory → CanBeLinked (kind_of k m) → n ≢ m
+linked_is_other k n m e f same = subst CanBeLinked (sym (ap (kind_of k) same) ∙ e) f
+
+pub linked_named : (o : Option Kind) → CanBeLinked o → CanBeNamed o
+linked_named (Some A_file) h = tt
+linked_named (Some A_link) h = tt
+linked_named (Some A_fifo) h = tt
+linked_named (Some A_socket) h = tt
+linked_named o h = absurd h
+
+pub some_linked : (o : Option Kind) → CanBeLinked o → (what : Kind) × (o ≡ Some what)
+some_linked (Some what) h = (what, refl)
+some_linked None h = absurd h
+
+linked_not_new : (k : Kernel) (n m : ℕ) → get k.inodes n ≡ None → CanBeLinked (kind_of k m) → n ≢ m
+linked_not_new k n m none linked same = subst CanBeLinked (ap (kind_of k) (sym same) ∙ ap (mapped kind) none) linked
 
 pub not_counted : (n m : ℕ) → n ≢ m → one n m ≡ 0
 not_counted n m h = ap (λ b. cond b 1 0) (ne_eqb n m h)
@@ -132,14 +152,14 @@ pub made_marks : (k : Kernel) (d : ℕ) (x : Name) (n : ℕ) (new : Inode) → I
     → (a : Aspect) → IsThere k a → LeavesAlone (Entry d x) a → Keeps k (set_name d x n (set_inode n new k)) a
 made_marks k d x n new nowhere f is free a there alone =
     let mid : kind_of (set_inode n new k) d ≡ Some A_directory = kept_kind k n d new A_directory nowhere.inode is in
-    keeps_on k (set_inode n new k) (set_name d x n (set_inode n new k)) a (new_marks k n new nowhere f a)
+    keeps_on k (set_inode n new k) (set_name d x n (set_inode n new k)) a (new_marks k n new nowhere f a there)
     (named_mark (set_inode n new k) d x n mid a (for_links a (λ m. links (set_name d x n (set_inode n new k)) m ≡ links (set_inode n new k) m) (λ m e.
-    same_when_named (set_inode n new k) d x n m mid (ap (λ (ns : FinMap name_cmp ℕ). get ns x) (f.names d) ∙ free) (λ same. not_new k n m A_file nowhere.inode (subst (IsThere k) e there) (sym same)))) alone)
+    same_when_named (set_inode n new k) d x n m mid (ap (λ (ns : FinMap name_cmp ℕ). get ns x) (f.names d) ∙ free) (linked_not_new k n m nowhere.inode (subst (IsThere k) e there)))) alone)
 
 -- what stood where a name is moved to does not lose a link, where it is not marked
-not_replaced : (k : Kernel) (n m : ℕ) (old : Option ℕ) (replaced : Replaced) → CanBeReplaced k n old replaced → kind_of k m ≡ Some A_file → AllByRecursion (λ w. LeavesAlone w (Links m)) (map Links (file_replaced replaced)) → counted m old ≡ 0
+not_replaced : (k : Kernel) (n m : ℕ) (old : Option ℕ) (replaced : Replaced) → CanBeReplaced k n old replaced → CanBeLinked (kind_of k m) → AllByRecursion (λ w. LeavesAlone w (Links m)) (map Links (file_replaced replaced)) → counted m old ≡ 0
 not_replaced k n m None replaced can is alone = refl
-not_replaced k n m (Some t) (Over_directory r) can is alone = not_counted t m (file_is_other k t m can.1 is)
+not_replaced k n m (Some t) (Over_directory r) can is alone = not_counted t m (linked_is_other k t m can.1 is)
 not_replaced k n m (Some t) (Over_file r) can is alone = not_counted t m (λ same. alone.0 (ap Links (can.2 ∙ same)))
 not_replaced k n m (Some t) Over_nothing can is alone = absurd can
 
@@ -185,12 +205,17 @@ file_marks k n new is a long same = by_aspect a long same
     pipes : (t : ℕ) → pipe_of (set_inode n (File new) k) t ≡ pipe_of k t
     pipes = unchanged_by pipe_of_inode k n (File new) (no_pipe_file _ is)
 
+    targets : (t : ℕ) → target_of (set_inode n (File new) k) t ≡ target_of k t
+    targets = unchanged_by target_of_inode k n (File new) (no_target_file _ is)
+
     by_aspect : (a : Aspect) → (a ≡ Size n → length new ≡ length (file_of k n)) → ((block : ℕ) → a ≡ Block n block → SameBlock block new (file_of k n)) → Keeps k (set_inode n (File new) k) a
     by_aspect (Entry d x) long same = entry_same k _ has d x
     by_aspect (Names d) long same = ap keys (has.names d)
     by_aspect (Links m) long same = has.links m
     by_aspect (Ends q) long same = (refl, refl)
     by_aspect (Offset d) long same = refl
+    by_aspect (Target m) long same = targets m
+    by_aspect (Rights m) long same = ap (rights_or (get k.rights m)) (has.kinds m)
     by_aspect (Front q) long same = ([], pipes q ∙ sym (append-nil (pipe_of k q)))
     by_aspect (Back q) long same = ([], sym (pipes q))
     by_aspect (Size m) long same = elim (cases_eq m n) [
@@ -214,12 +239,17 @@ pipe_marks k p new is a front back = by_aspect a front back
     files : (t : ℕ) → file_of (set_inode p (Pipe new) k) t ≡ file_of k t
     files = unchanged_by file_of_inode k p (Pipe new) (no_file_pipe _ is)
 
+    targets : (t : ℕ) → target_of (set_inode p (Pipe new) k) t ≡ target_of k t
+    targets = unchanged_by target_of_inode k p (Pipe new) (no_target_pipe _ is)
+
     by_aspect : (a : Aspect) → (a ≡ Front p → (more : List ℕ) × (new ≡ pipe_of k p ++ more)) → (a ≡ Back p → (gone : List ℕ) × (pipe_of k p ≡ gone ++ new)) → Keeps k (set_inode p (Pipe new) k) a
     by_aspect (Entry d x) front back = entry_same k _ has d x
     by_aspect (Names d) front back = ap keys (has.names d)
     by_aspect (Links m) front back = has.links m
     by_aspect (Ends q) front back = (refl, refl)
     by_aspect (Offset d) front back = refl
+    by_aspect (Target m) front back = targets m
+    by_aspect (Rights m) front back = ap (rights_or (get k.rights m)) (has.kinds m)
     by_aspect (Size m) front back = ap length (files m)
     by_aspect (Block m block) front back = λ i at. ap (λ b. get_or b i 0) (files m)
     by_aspect (Front q) front back = elim (cases_eq q p) [

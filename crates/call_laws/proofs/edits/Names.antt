@@ -5,8 +5,8 @@ use Rattle.std.specs.Cmp.Lexicographic.{nat_list_cmp_total}
 use Rattle.model.specs.FiniteMap.{FinMap, get, insert, remove, keys, values, get-insert, get-remove, nat_cmp-IsAntisymmetric}
 use Rattle.std.specs.Cmp.{nat_cmp_total}
 use Rattle.std.proofs.lemmas.Bool.{cases_eq}
-use Rattle.model.specs.State.{Name, name_cmp, Kind, A_directory, Kernel, Inode, File, Directory, Pipe, kind, names_of, file_of, pipe_of, kind_of, entry_of, links, ends, mapped, names_of_inode, file_of_inode, pipe_of_inode}
-use Rattle.model.specs.Aspects.{Aspect, Entry, Names, Size, Block, Links, Ends, Offset, Front, Back, Keeps}
+use Rattle.model.specs.State.{Name, name_cmp, Kind, A_directory, Kernel, Inode, File, Directory, Pipe, Fixed, Link_to, Fifo, Socket, kind, names_of, file_of, pipe_of, target_of, kind_of, entry_of, links, ends, mapped, names_of_inode, file_of_inode, pipe_of_inode, target_of_inode, rights_or}
+use Rattle.model.specs.Aspects.{Aspect, Entry, Names, Size, Block, Links, Ends, Offset, Front, Back, Target, Rights, Keeps}
 use Rattle.model.specs.Changes.{set_inode, set_name, clear_name}
 use Rattle.model.proofs.Laws.{weight, sum-insert, sum-remove, name_exact, get_same, get_other, unchanged_by, given_in, weighed, links-set_inode}
 
@@ -15,18 +15,30 @@ no_file None e = refl
 no_file (Some (File bytes)) e = absurd cc
 no_file (Some (Directory names)) e = refl
 no_file (Some (Pipe bytes)) e = refl
+no_file (Some (Fixed fixed)) e = refl
 
 no_pipe : (x : Option Inode) → mapped kind x ≡ Some A_directory → [] ≡ pipe_of_inode x
 no_pipe None e = refl
 no_pipe (Some (File bytes)) e = refl
 no_pipe (Some (Directory names)) e = refl
 no_pipe (Some (Pipe bytes)) e = absurd cc
+no_pipe (Some (Fixed fixed)) e = refl
+
+no_target : (x : Option Inode) → mapped kind x ≡ Some A_directory → [] ≡ target_of_inode x
+no_target None e = refl
+no_target (Some (File bytes)) e = refl
+no_target (Some (Directory names)) e = refl
+no_target (Some (Pipe bytes)) e = refl
+no_target (Some (Fixed (Link_to target))) e = absurd cc
+no_target (Some (Fixed Fifo)) e = refl
+no_target (Some (Fixed Socket)) e = refl
 
 -- one state is another with other names in one directory
 pub record HasNames (k after : Kernel) (d : ℕ) (names : FinMap name_cmp ℕ) : Type 0 where
   pub kinds : (t : ℕ) → kind_of after t ≡ kind_of k t
   pub files : (t : ℕ) → file_of after t ≡ file_of k t
   pub pipes : (t : ℕ) → pipe_of after t ≡ pipe_of k t
+  pub targets : (t : ℕ) → target_of after t ≡ target_of k t
   pub here : names_of after d ≡ names
   pub there : (t : ℕ) → t ≢ d → names_of after t ≡ names_of k t
   pub links : (m : ℕ) → links after m + given_in m (names_of k d) ≡ links k m + given_in m names
@@ -36,6 +48,7 @@ has_names k d names e = record {
   kinds = unchanged_by (mapped kind) k d (Directory names) (sym e);
   files = unchanged_by file_of_inode k d (Directory names) (no_file _ e);
   pipes = unchanged_by pipe_of_inode k d (Directory names) (no_pipe _ e);
+  targets = unchanged_by target_of_inode k d (Directory names) (no_target _ e);
   here = ap names_of_inode (get_same k.inodes d (Directory names));
   there = λ t h. ap names_of_inode (get_other k.inodes d t (Directory names) h);
   links = links-set_inode k d (Directory names);
@@ -131,3 +144,5 @@ same_rest now later d names other e f entry listed counted (Ends p) h = h
 same_rest now later d names other e f entry listed counted (Offset t) h = h
 same_rest now later d names other e f entry listed counted (Front p) h = (h.0, (has_names later d other f).pipes p ∙ h.1 ∙ ap (λ bytes. bytes ++ h.0) (sym ((has_names now d names e).pipes p)))
 same_rest now later d names other e f entry listed counted (Back p) h = (h.0, (has_names now d names e).pipes p ∙ h.1 ∙ ap (λ bytes. h.0 ++ bytes) (sym ((has_names later d other f).pipes p)))
+same_rest now later d names other e f entry listed counted (Target n) h = (has_names later d other f).targets n ∙ h ∙ sym ((has_names now d names e).targets n)
+same_rest now later d names other e f entry listed counted (Rights n) h = ap (rights_or (get later.rights n)) ((has_names later d other f).kinds n) ∙ h ∙ sym (ap (rights_or (get now.rights n)) ((has_names now d names e).kinds n))

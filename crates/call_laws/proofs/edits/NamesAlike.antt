@@ -4,11 +4,12 @@ use Rattle.std.specs.Ordering.{eq_by_cmp}
 use Rattle.std.specs.Cmp.Lexicographic.{nat_list_cmp_total}
 use Rattle.model.specs.FiniteMap.{FinMap, get, empty, insert, remove, keys, get-insert, get-remove}
 use Rattle.std.proofs.lemmas.Bool.{cases_eq}
-use Rattle.model.specs.State.{Name, name_cmp, Kind, A_directory, Kernel, Inode, kind, names_of, file_of, pipe_of, kind_of, entry_of, links, ends, mapped, names_of_inode, file_of_inode, pipe_of_inode}
-use Rattle.model.specs.Aspects.{Aspect, Entry, Names, Size, Block, Links, Ends, Offset, Front, Back, Keeps}
+use Rattle.model.specs.State.{Name, name_cmp, Kind, A_directory, Kernel, Inode, kind, names_of, file_of, pipe_of, kind_of, entry_of, links, ends, mapped, names_of_inode, file_of_inode, pipe_of_inode, target_of_inode, rights_or, rights_of}
+use Rattle.model.specs.Aspects.{Aspect, Entry, Names, Size, Block, Links, Ends, Offset, Front, Back, Target, Rights, Keeps}
 use Rattle.model.specs.Changes.{set_inode, set_name, clear_name}
 use Rattle.model.proofs.Laws.{keys-insert, keys-remove, name_exact, get_same, get_other, unchanged_by, given_in, links-set_inode}
 use Rattle.call_laws.proofs.edits.Names.{with_kind, same_rest, has_names, one, counted, links_named, links_unnamed}
+use Rattle.call_laws.proofs.edits.Contents.{here_by, there_by}
 use Rattle.call_laws.proofs.Maps.{not_none}
 
 given_named : (k : Kernel) (names : FinMap name_cmp ℕ) (x : Name) (n : ℕ) (y : Name) → with_kind k (get (insert names x n) y) ≡ cond (eq_by_cmp name_cmp y x) (Some (n, kind_of k n)) (with_kind k (get names y))
@@ -62,7 +63,7 @@ unnamed_keeps now later d x f g alike = same_rest now later d (remove (names_of 
     let o : counted m (get (names_of later d) x) ≡ counted m (get (names_of now d) x) = ap (counted m) (same_given now later (get (names_of now d) x) (get (names_of later d) x) alike) in
     omega arith)
 
--- an inode of no content that is new
+-- a new inode of no bytes and no names
 pub record IsNew (k after : Kernel) (n : ℕ) (what : Kind) : Type 0 where
   pub names : (t : ℕ) → names_of after t ≡ names_of k t
   pub files : (t : ℕ) → file_of after t ≡ file_of k t
@@ -98,26 +99,38 @@ new_kinds now now' later later' n what f g (Some t) (Some u) h =
     ] in
     λ i. Some (same i, kinds i)
 
-pub new_keeps : (now later : Kernel) (n : ℕ) (new : Inode) → IsNew now (set_inode n new now) n (kind new) → IsNew later (set_inode n new later) n (kind new) → (a : Aspect) → Keeps now later a → Keeps (set_inode n new now) (set_inode n new later) a
+pub new_keeps : (now later : Kernel) (n : ℕ) (new : Inode) → IsNew now (set_inode n new now) n (kind new) → IsNew later (set_inode n new later) n (kind new) → get later.rights n ≡ get now.rights n → (a : Aspect) → Keeps now later a → Keeps (set_inode n new now) (set_inode n new later) a
 unfolding ends
-new_keeps now later n new f g (Entry d x) h =
+new_keeps now later n new f g set (Entry d x) h =
     ap (λ (ns : FinMap name_cmp ℕ). with_kind (set_inode n new later) (get ns x)) (g.names d)
     ∙ new_kinds now (set_inode n new now) later (set_inode n new later) n (kind new) f g (get (names_of now d) x) (get (names_of later d) x) h
     ∙ sym (ap (λ (ns : FinMap name_cmp ℕ). with_kind (set_inode n new now) (get ns x)) (f.names d))
-new_keeps now later n new f g (Names d) h = ap keys (g.names d) ∙ h ∙ sym (ap keys (f.names d))
-new_keeps now later n new f g (Size m) h = ap length (g.files m) ∙ h ∙ ap length (sym (f.files m))
-new_keeps now later n new f g (Block m block) h = λ i is. ap (λ bytes. get_or bytes i 0) (g.files m) ∙ h i is ∙ ap (λ bytes. get_or bytes i 0) (sym (f.files m))
-new_keeps now later n new f g (Links m) h = g.links m ∙ h ∙ sym (f.links m)
-new_keeps now later n new f g (Ends p) h = h
-new_keeps now later n new f g (Offset d) h = h
-new_keeps now later n new f g (Front p) h = (h.0, g.pipes p ∙ h.1 ∙ ap (λ bytes. bytes ++ h.0) (sym (f.pipes p)))
-new_keeps now later n new f g (Back p) h = (h.0, f.pipes p ∙ h.1 ∙ ap (λ bytes. h.0 ++ bytes) (sym (g.pipes p)))
+new_keeps now later n new f g set (Names d) h = ap keys (g.names d) ∙ h ∙ sym (ap keys (f.names d))
+new_keeps now later n new f g set (Size m) h = ap length (g.files m) ∙ h ∙ ap length (sym (f.files m))
+new_keeps now later n new f g set (Block m block) h = λ i is. ap (λ bytes. get_or bytes i 0) (g.files m) ∙ h i is ∙ ap (λ bytes. get_or bytes i 0) (sym (f.files m))
+new_keeps now later n new f g set (Links m) h = g.links m ∙ h ∙ sym (f.links m)
+new_keeps now later n new f g set (Ends p) h = h
+new_keeps now later n new f g set (Offset d) h = h
+new_keeps now later n new f g set (Front p) h = (h.0, g.pipes p ∙ h.1 ∙ ap (λ bytes. bytes ++ h.0) (sym (f.pipes p)))
+new_keeps now later n new f g set (Back p) h = (h.0, f.pipes p ∙ h.1 ∙ ap (λ bytes. h.0 ++ bytes) (sym (g.pipes p)))
+new_keeps now later n new f g set (Target m) h =
+    elim (cases_eq m n) [
+      | inl is ↦ here_by target_of_inode later n new m is ∙ sym (here_by target_of_inode now n new m is)
+      | inr away ↦ there_by target_of_inode later n new m away ∙ h ∙ sym (there_by target_of_inode now n new m away)
+    ]
+new_keeps now later n new f g set (Rights m) h =
+    elim (cases_eq m n) [
+      | inl is ↦ ap (rights_of (set_inode n new later)) is
+          ∙ ap (λ o. rights_or o (kind_of (set_inode n new later) n)) set ∙ ap (rights_or (get now.rights n)) (g.here ∙ sym f.here)
+          ∙ sym (ap (rights_of (set_inode n new now)) is)
+      | inr away ↦ ap (rights_or (get later.rights m)) (g.there m away) ∙ h ∙ sym (ap (rights_or (get now.rights m)) (f.there m away))
+    ]
 
 -- a new inode with its name
-pub made_keeps : (now later : Kernel) (d : ℕ) (x : Name) (n : ℕ) (new : Inode) → IsNew now (set_inode n new now) n (kind new) → IsNew later (set_inode n new later) n (kind new)
+pub made_keeps : (now later : Kernel) (d : ℕ) (x : Name) (n : ℕ) (new : Inode) → IsNew now (set_inode n new now) n (kind new) → IsNew later (set_inode n new later) n (kind new) → get later.rights n ≡ get now.rights n
     → kind_of (set_inode n new now) d ≡ Some A_directory → kind_of (set_inode n new later) d ≡ Some A_directory → entry_of later d x ≡ entry_of now d x
     → (a : Aspect) → Keeps now later a → Keeps (set_name d x n (set_inode n new now)) (set_name d x n (set_inode n new later)) a
-made_keeps now later d x n new f g e h alike a kept = named_keeps (set_inode n new now) (set_inode n new later) d x n e h (new_keeps now later n new f g (Entry d x) alike) (g.here ∙ sym f.here) a (new_keeps now later n new f g a kept)
+made_keeps now later d x n new f g set e h alike a kept = named_keeps (set_inode n new now) (set_inode n new later) d x n e h (new_keeps now later n new f g set (Entry d x) alike) (g.here ∙ sym f.here) a (new_keeps now later n new f g set a kept)
 
 -- what is of some kind is not the new one
 pub not_new : (k : Kernel) (n t : ℕ) (what : Kind) → get k.inodes n ≡ None → kind_of k t ≡ Some what → t ≢ n

@@ -5,17 +5,17 @@ use Rattle.std.specs.Cmp.{nat_cmp_total}
 use Rattle.std.specs.Cmp.Lexicographic.{nat_list_cmp_total}
 use Rattle.model.specs.FiniteMap.{FinMap, get, insert, remove, get-insert, get-remove}
 use Rattle.std.proofs.lemmas.Bool.{cases_eq}
-use Rattle.model.specs.State.{Name, name_cmp, Kind, A_file, A_directory, Kernel, Inode, File, Directory, Pipe, kind, mapped, names_of, names_of_inode, kind_of, links}
+use Rattle.model.specs.State.{Name, name_cmp, Kind, A_directory, Kernel, Inode, File, Directory, Pipe, Fixed, kind, mapped, names_of, names_of_inode, kind_of, links}
 use Rattle.model.specs.Changes.{set_inode, set_name, clear_name}
 use Rattle.model.specs.Changes.{Replaced, Over_nothing, Over_file, Over_directory}
 use Rattle.model.specs.Steps.{IsNowhere}
 use Rattle.call_laws.specs.Fits.{CanBeReplaced}
-use Rattle.call_laws.specs.WellFormed.{CanBeNamed, IsRooted, WellFormed}
+use Rattle.call_laws.specs.WellFormed.{CanBeLinked, CanBeNamed, IsRooted, WellFormed}
 use Rattle.model.proofs.Laws.{given_in}
 use Rattle.call_laws.proofs.edits.Names.{has_names, one, counted, links_named, links_unnamed}
 use Rattle.call_laws.proofs.edits.Contents.{HasBytes}
 use Rattle.call_laws.proofs.edits.NamesAlike.{IsNew, not_new, kept_kind}
-use Rattle.call_laws.proofs.edits.InodeMarks.{file_is_other, not_counted}
+use Rattle.call_laws.proofs.edits.InodeMarks.{linked_is_other, linked_named, not_counted}
 use Rattle.call_laws.proofs.Maps.{not_none, some_same, empty_gives, sum-zero, none_by_keys}
 
 -- what is named by nothing is counted by nothing
@@ -30,6 +30,7 @@ named_in : (o : Option Inode) (x : Name) (n : ℕ) → get (names_of_inode o) x 
 named_in (Some (Directory names)) x n e = refl
 named_in (Some (File bytes)) x n e = absurd (empty_gives name_cmp x n e)
 named_in (Some (Pipe bytes)) x n e = absurd (empty_gives name_cmp x n e)
+named_in (Some (Fixed fixed)) x n e = absurd (empty_gives name_cmp x n e)
 named_in None x n e = absurd (empty_gives name_cmp x n e)
 
 pub has_names_in : (k : Kernel) (d : ℕ) (x : Name) (n : ℕ) → get (names_of k d) x ≡ Some n → kind_of k d ≡ Some A_directory
@@ -121,18 +122,18 @@ made_names k d x n new well stay nowhere f can rooted free =
       ];
     }
 
--- one more name of a file
-pub linked_names : (k : Kernel) (d : ℕ) (x : Name) (n : ℕ) → WellFormed k → IsRooted k d → get (names_of k d) x ≡ None → kind_of k n ≡ Some A_file → NamesAreWell k (set_name d x n k)
-linked_names k d x n well rooted free file =
+-- one more name of what may have several
+pub linked_names : (k : Kernel) (d : ℕ) (x : Name) (n : ℕ) → WellFormed k → IsRooted k d → get (names_of k d) x ≡ None → CanBeLinked (kind_of k n) → NamesAreWell k (set_name d x n k)
+linked_names k d x n well rooted free linked =
     let after : Kernel = set_name d x n k in
     let count : (t : ℕ) → links after t ≡ links k t + one n t = λ t. same_links k d x n t rooted.directory free in
     let kinds : (t : ℕ) → kind_of after t ≡ kind_of k t = (has_names k d (insert (names_of k d) x n) rooted.directory).kinds in
-    let same : (t : ℕ) → kind_of k t ≡ Some A_directory → links after t ≡ links k t = λ t is. (let c : links after t ≡ links k t + one n t = count t in let z : one n t ≡ 0 = not_counted n t (λ e. file_is_other k t n is file (sym e)) in omega arith) in
+    let same : (t : ℕ) → kind_of k t ≡ Some A_directory → links after t ≡ links k t = λ t is. (let c : links after t ≡ links k t + one n t = count t in let z : one n t ≡ 0 = not_counted n t (λ e. linked_is_other k t n is linked (sym e)) in omega arith) in
     let parents : (t : ℕ) → (links k t ≡ 0 → t ≡ k.root) → links after t ≡ 0 → t ≡ k.root = λ t was none. was (let c : links after t ≡ links k t + one n t = count t in omega arith) in
     record {
       root_unnamed = same k.root well.root ∙ well.root_unnamed;
       named = λ t y m e. set_gives (CanBeNamed (kind_of after m)) k d x n rooted.directory t y m
-          (λ _ e. subst (λ m. CanBeNamed (kind_of after m)) e (subst CanBeNamed (sym (kinds n ∙ file)) tt))
+          (λ _ e. subst (λ m. CanBeNamed (kind_of after m)) e (subst CanBeNamed (sym (kinds n)) (linked_named (kind_of k n) linked)))
           (λ old. subst CanBeNamed (sym (kinds m)) (well.names t y m old)) e;
       parent = λ t y m e. parents t (set_gives (links k t ≡ 0 → t ≡ k.root) k d x n rooted.directory t y m (λ e _. subst (λ t. links k t ≡ 0 → t ≡ k.root) (sym e) rooted.rooted) (λ old. well.parents t y m old) e);
       one_name = λ t dir. let l : links k t ≤ 1 = well.one_name t (sym (kinds t) ∙ dir) in let s : links after t ≡ links k t = same t (sym (kinds t) ∙ dir) in omega arith;
@@ -157,7 +158,7 @@ unnamed_names k d x n well is gives bare =
 pub bare_old : (k : Kernel) (n t : ℕ) (old : Option ℕ) (replaced : Replaced) → CanBeReplaced k n old replaced → (y : Name) (m : ℕ) → get (names_of k t) y ≡ Some m → counted t old ≡ 0
 bare_old k n t None replaced can y m e = refl
 bare_old k n t (Some r) (Over_directory s) can y m e = not_counted r t (λ same. not_none m (sym e ∙ ap (λ t. get (names_of k t) y) (sym same) ∙ none_by_keys nat_list_cmp_total (names_of k r) can.3 y))
-bare_old k n t (Some r) (Over_file s) can y m e = not_counted r t (λ same. file_is_other k t r (has_names_in k t y m e) can.1 (sym same))
+bare_old k n t (Some r) (Over_file s) can y m e = not_counted r t (λ same. linked_is_other k t r (has_names_in k t y m e) can.1 (sym same))
 bare_old k n t (Some r) Over_nothing can y m e = absurd can
 
 -- a name that moves

@@ -3,7 +3,7 @@ use Rattle.std.proofs.Common.{◌≡◌, ◌≢◌, ℕ, Bool, ◌==◌, ◌&&�
 use Rattle.model.specs.FiniteMap.{get, insert, values}
 use Rattle.std.proofs.lemmas.Bool.{cases_eq}
 use Rattle.model.specs.State.{Kernel, Description, pipe_of, offset_of, offset_in, is_end, ends, links}
-use Rattle.model.specs.Aspects.{Aspect, Entry, Names, Size, Block, Links, Ends, Offset, Front, Back, Keeps}
+use Rattle.model.specs.Aspects.{Aspect, Entry, Names, Size, Block, Links, Ends, Offset, Front, Back, Target, Rights, Keeps}
 use Rattle.model.specs.Changes.{at_offset, set_offset}
 use Rattle.model.proofs.Laws.{get_same, get_other}
 
@@ -52,6 +52,8 @@ keeps_at now later d place it is e f (Offset t) h =
     ]
 keeps_at now later d place it is e f (Front p) h = h
 keeps_at now later d place it is e f (Back p) h = h
+keeps_at now later d place it is e f (Target n) h = h
+keeps_at now later d place it is e f (Rights n) h = h
 
 pub offset_keeps : (now later : Kernel) (d place : ℕ) (it is : Description) → get now.descriptions d ≡ Some it → get later.descriptions d ≡ Some is
     → (a : Aspect) → Keeps now later a → Keeps (set_offset d place (get now.descriptions d) now) (set_offset d place (get later.descriptions d) later) a
@@ -74,3 +76,5 @@ offset_marks k d place it e a alone = subst (λ after. Keeps k after a) (sym (se
     by_aspect (Offset t) alone = offset_there k d place it t (λ same. alone (ap Offset (sym same)))
     by_aspect (Front p) alone = ([], sym (append-nil (pipe_of k p)))
     by_aspect (Back p) alone = ([], refl)
+    by_aspect (Target n) alone = refl
+    by_aspect (Rights n) alone = refl

@@ -3,7 +3,7 @@ use Rattle.std.proofs.Common.{◌≡◌, ◌≢◌, ℕ, ◌+◌, Bool, false, c
 use Rattle.std.specs.List.{AllByRecursion}
 use Rattle.model.specs.FiniteMap.{FinMap, get, insert}
 use Rattle.model.specs.State.{Kind, A_pipe, Kernel, Pipe, Description, Process, kind, pipe_of, kind_of, mapped, is_end, links, ends, offset_in, offset_of}
-use Rattle.model.specs.Aspects.{Aspect, Entry, Names, Size, Block, Links, Ends, Offset, Front, Back, Keeps}
+use Rattle.model.specs.Aspects.{Aspect, Entry, Names, Size, Block, Links, Ends, Offset, Front, Back, Target, Rights, Keeps}
 use Rattle.model.specs.Changes.{Mode, to_read, to_write, set_inode, set_process, open_at, at_start}
 use Rattle.call_laws.specs.Objects.{IsThere, LeavesAlone}
 use Rattle.call_laws.specs.Fits.{table_of, IsUnused, ListsPipe, CanPipe}
@@ -31,6 +31,8 @@ tables_mark k ds ps m (Ends p) offsets ended = ended p refl
 tables_mark k ds ps m (Offset d) offsets ended = offsets d refl
 tables_mark k ds ps m (Front p) offsets ended = ([], sym (append-nil (pipe_of k p)))
 tables_mark k ds ps m (Back p) offsets ended = ([], refl)
+tables_mark k ds ps m (Target t) offsets ended = refl
+tables_mark k ds ps m (Rights t) offsets ended = refl
 
 pub open_marks : (k : Kernel) (d n : ℕ) (how : Mode) (pid f : ℕ) → IsUnused k d → get (table_of k pid) f ≡ None → (a : Aspect)
     → ((e : ℕ) → a ≡ Offset e → e ≢ d) → ((p : ℕ) → a ≡ Ends p → n ≢ p) → Keeps k (open_at d n how pid f k) a
@@ -50,7 +52,7 @@ ends_apart k n a none there p is = number_apart k n p A_pipe none (subst (IsTher
 
 pub made_pipe_marks : (chosen : List ℕ) (k : Kernel) (p d e pid f g : ℕ) → CanPipe chosen k p d e pid f g → (a : Aspect) → IsThere k a → Keeps k (pipe_at p d e pid f g k) a
 made_pipe_marks chosen k p d e pid f g can a there =
-    let first : Keeps k (set_inode p (Pipe []) k) a = new_marks k p (Pipe []) can.pipe (is_new k p (Pipe []) can.pipe.inode refl refl refl) a in
+    let first : Keeps k (set_inode p (Pipe []) k) a = new_marks k p (Pipe []) can.pipe (is_new k p (Pipe []) can.pipe.inode refl refl refl) a there in
     let second : Keeps (set_inode p (Pipe []) k) (open_at d p to_read pid f (set_inode p (Pipe []) k)) a =
     open_marks (set_inode p (Pipe []) k) d p to_read pid f (record { description = can.reader.description; unheld = can.reader.unheld }) can.slot.free a
     (offset_apart k d a can.reader.description there) (ends_apart k p a can.pipe.inode there) in

@@ -3,7 +3,7 @@ use Rattle.std.proofs.Common.{List, ◌≡◌, ◌≢◌, ℕ, ◌+◌, Bool, co
 use Rattle.model.specs.FiniteMap.{FinMap, get, insert, remove, get-empty}
 use Rattle.std.proofs.lemmas.Bool.{cases_eq}
 use Rattle.model.specs.State.{Kernel, Pipe, Description, Process, links, ends, offset_in}
-use Rattle.model.specs.Aspects.{Aspect, Entry, Names, Size, Block, Links, Ends, Offset, Front, Back, Keeps}
+use Rattle.model.specs.Aspects.{Aspect, Entry, Names, Size, Block, Links, Ends, Offset, Front, Back, Target, Rights, Keeps}
 use Rattle.model.specs.Changes.{Mode, to_read, to_write, process_of, with_slot, set_inode, set_process, set_description, at_start, open_at}
 use Rattle.call_laws.specs.Fits.{table_of, IsUnused, CanPipe, OwnAlike, fixed_of}
 use Rattle.model.proofs.Laws.{get_same, get_other}
@@ -31,6 +31,8 @@ tables_keep now later ds es ps qs m n offsets ended (Ends p) h = ended p h
 tables_keep now later ds es ps qs m n offsets ended (Offset d) h = offsets d h
 tables_keep now later ds es ps qs m n offsets ended (Front p) h = h
 tables_keep now later ds es ps qs m n offsets ended (Back p) h = h
+tables_keep now later ds es ps qs m n offsets ended (Target t) h = h
+tables_keep now later ds es ps qs m n offsets ended (Rights t) h = h
 
 pub open_keeps : (now later : Kernel) (d n : ℕ) (how : Mode) (pid f : ℕ) → IsUnused now d → IsUnused later d → get (table_of now pid) f ≡ None → get (table_of later pid) f ≡ None → (a : Aspect) → Keeps now later a → Keeps (open_at d n how pid f now) (open_at d n how pid f later) a
 open_keeps now later d n how pid f one two free free_later = tables_keep now later _ _ _ _ now.made later.made
@@ -68,7 +70,7 @@ pipe_at p d e pid f g k = open_at e p to_write pid g (open_at d p to_read pid f 
 
 pub pipe_keeps : (chosen : List ℕ) (now later : Kernel) (p d e pid f g : ℕ) → CanPipe chosen now p d e pid f g → CanPipe chosen later p d e pid f g → (a : Aspect) → Keeps now later a → Keeps (pipe_at p d e pid f g now) (pipe_at p d e pid f g later) a
 pipe_keeps chosen now later p d e pid f g can could a h =
-    let first : Keeps (set_inode p (Pipe []) now) (set_inode p (Pipe []) later) a = new_keeps now later p (Pipe []) (is_new now p (Pipe []) can.pipe.inode refl refl refl) (is_new later p (Pipe []) could.pipe.inode refl refl refl) a h in
+    let first : Keeps (set_inode p (Pipe []) now) (set_inode p (Pipe []) later) a = new_keeps now later p (Pipe []) (is_new now p (Pipe []) can.pipe.inode refl refl refl) (is_new later p (Pipe []) could.pipe.inode refl refl refl) (could.pipe.rights ∙ sym can.pipe.rights) a h in
     let second : Keeps (open_at d p to_read pid f (set_inode p (Pipe []) now)) (open_at d p to_read pid f (set_inode p (Pipe []) later)) a =
     open_keeps (set_inode p (Pipe []) now) (set_inode p (Pipe []) later) d p to_read pid f (record { description = can.reader.description; unheld = can.reader.unheld }) (record { description = could.reader.description; unheld = could.reader.unheld }) can.slot.free could.slot.free a first in
     open_keeps (open_at d p to_read pid f (set_inode p (Pipe []) now)) (open_at d p to_read pid f (set_inode p (Pipe []) later)) e p to_write pid g

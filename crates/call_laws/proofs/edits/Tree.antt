@@ -5,16 +5,16 @@ use Rattle.std.specs.Cmp.{tied_itself}
 use Rattle.std.specs.Cmp.Lexicographic.{nat_list_cmp_total}
 use Rattle.model.specs.FiniteMap.{FinMap, get, insert, remove, get-insert, get-remove}
 use Rattle.std.proofs.lemmas.Bool.{cases_eq}
-use Rattle.model.specs.State.{Name, name_cmp, A_file, A_directory, Kernel, Inode, kind, names_of, kind_of, links}
+use Rattle.model.specs.State.{Name, name_cmp, A_directory, Kernel, Inode, kind, names_of, kind_of, links}
 use Rattle.model.specs.Changes.{set_inode, set_name, clear_name}
 use Rattle.model.specs.Changes.{Replaced, Over_nothing, Over_file, Over_directory}
 use Rattle.call_laws.specs.Fits.{CanBeReplaced}
-use Rattle.call_laws.specs.WellFormed.{IsRooted, Leads, WellFormed}
+use Rattle.call_laws.specs.WellFormed.{CanBeLinked, IsRooted, Leads, WellFormed}
 use Rattle.model.proofs.Laws.{name_exact, tie}
 use Rattle.call_laws.proofs.edits.Names.{has_names, one, counted, links_named, links_unnamed, named_counted}
 use Rattle.call_laws.proofs.edits.Contents.{HasBytes}
 use Rattle.call_laws.proofs.edits.NamesAlike.{IsNew, kept_kind}
-use Rattle.call_laws.proofs.edits.InodeMarks.{file_is_other, not_counted, names_apart}
+use Rattle.call_laws.proofs.edits.InodeMarks.{linked_is_other, not_counted, names_apart}
 use Rattle.call_laws.proofs.Maps.{not_none, some_same, true_is_false, none_by_keys}
 use Rattle.call_laws.proofs.edits.NamesWell.{has_names_in, same_links}
 
@@ -105,13 +105,13 @@ made_tree k d x n new none f rooted free tree =
       ];
     }
 
-pub linked_tree : (k : Kernel) (d : ℕ) (x : Name) (n : ℕ) → IsRooted k d → get (names_of k d) x ≡ None → kind_of k n ≡ Some A_file → HasPaths k → HasPaths (set_name d x n k)
-linked_tree k d x n rooted free file tree = record {
+pub linked_tree : (k : Kernel) (d : ℕ) (x : Name) (n : ℕ) → IsRooted k d → get (names_of k d) x ≡ None → CanBeLinked (kind_of k n) → HasPaths k → HasPaths (set_name d x n k)
+linked_tree k d x n rooted free linked tree = record {
   leads = λ b r.
       let is : kind_of k b ≡ Some A_directory = sym ((has_names k d (insert (names_of k d) x n) rooted.directory).kinds b) ∙ r.directory in
       let path = tree.leads b (record {
         directory = is;
-        rooted = λ zero. r.rooted (let c : links (set_name d x n k) b ≡ links k b + one n b = same_links k d x n b rooted.directory free in let z : one n b ≡ 0 = not_counted n b (λ e. file_is_other k b n is file (sym e)) in let zero' : links k b ≡ 0 = zero in omega arith);
+        rooted = λ zero. r.rooted (let c : links (set_name d x n k) b ≡ links k b + one n b = same_links k d x n b rooted.directory free in let z : one n b ≡ 0 = not_counted n b (λ e. linked_is_other k b n is linked (sym e)) in let zero' : links k b ≡ 0 = zero in omega arith);
       }) in
       (path.0, on_path k (set_name d x n k) b (λ a y m rest e _. free_step k d x n rooted.directory free a y m e) k.root path.0 path.1);
 }
@@ -174,7 +174,7 @@ module _ (k : Kernel) (d : ℕ) (x : Name) (e : ℕ) (y : Name) (n : ℕ) (old :
 old_bare : (k : Kernel) (n m : ℕ) (old : Option ℕ) (replaced : Replaced) → CanBeReplaced k n old replaced → old ≡ Some m → (y : Name) (t : ℕ) → get (names_of k m) y ≢ Some t
 old_bare k n m None replaced can e y t g = absurd cc
 old_bare k n m (Some r) (Over_directory s) can e y t g = not_none t (sym g ∙ ap (λ m. get (names_of k m) y) (sym (some_same r m e)) ∙ none_by_keys nat_list_cmp_total (names_of k r) can.3 y)
-old_bare k n m (Some r) (Over_file s) can e y t g = file_is_other k m r (has_names_in k m y t g) can.1 (sym (some_same r m e))
+old_bare k n m (Some r) (Over_file s) can e y t g = linked_is_other k m r (has_names_in k m y t g) can.1 (sym (some_same r m e))
 old_bare k n m (Some r) Over_nothing can e y t g = absurd can
 
 pub moved_tree : (k : Kernel) (d : ℕ) (x : Name) (e : ℕ) (y : Name) (n : ℕ) (old : Option ℕ) (replaced : Replaced) → WellFormed k → kind_of k d ≡ Some A_directory → IsRooted k e → get (names_of k d) x ≡ Some n

@@ -3,7 +3,7 @@ use Rattle.std.proofs.Common.{◌≡◌, ◌≢◌, ◌⊎◌, ℕ, Bool, true, 
 use Rattle.std.specs.List.{AllByRecursion}
 use Rattle.model.specs.FiniteMap.{insert}
 use Rattle.model.specs.State.{Kernel}
-use Rattle.model.specs.Changes.{Edit, Make_directory, Make_file, Name_file, Unname_file, Unname_directory, Move, Put_bytes, Cut, Take, Append, Set_offset, Open_inode, Make_pipe, Share_slot, Clear_slot, New_process, End_process, applied, all_applied, tidy}
+use Rattle.model.specs.Changes.{Edit, Make_directory, Make_file, Make_fixed, Name_file, Unname_file, Unname_directory, Move, Put_bytes, Cut, Take, Append, Set_offset, Set_rights, Open_inode, Make_pipe, Share_slot, Clear_slot, New_process, End_process, applied, all_applied, tidy}
 use Rattle.model.specs.Moments.{is_alive}
 use Rattle.call_laws.specs.Fits.{Fits, FitsAll, IsBy, IsAlive}
 use Rattle.call_laws.proofs.Maps.{true_is_false, stays_inserted, removed_other}
@@ -13,6 +13,7 @@ pub alive_stays : (chosen : List ℕ) (k : Kernel) (e : Edit) (pid : ℕ) (insid
 unfolding applied
 alive_stays chosen k (Make_directory d x i) pid inside q by other f alive = alive
 alive_stays chosen k (Make_file d x i) pid inside q by other f alive = alive
+alive_stays chosen k (Make_fixed d x fixed i) pid inside q by other f alive = alive
 alive_stays chosen k (Name_file d x n) pid inside q by other f alive = alive
 alive_stays chosen k (Unname_file d x n) pid inside q by other f alive = alive
 alive_stays chosen k (Unname_directory d x n) pid inside q by other f alive = alive
@@ -22,6 +23,7 @@ alive_stays chosen k (Cut n before after) pid inside q by other f alive = alive
 alive_stays chosen k (Take p count) pid inside q by other f alive = alive
 alive_stays chosen k (Append p bytes) pid inside q by other f alive = alive
 alive_stays chosen k (Set_offset d place) pid inside q by other f alive = subst (λ k. IsAlive k q) (sym (set_there k d place f.0 f.1)) alive
+alive_stays chosen k (Set_rights n rights) pid inside q by other f alive = alive
 alive_stays chosen k (Open_inode i inode how p g) pid inside q by other f alive = stays_inserted k.processes p _ q alive
 alive_stays chosen k (Make_pipe i p g h) pid inside q by other f alive = stays_inserted (insert k.processes p _) p _ q (stays_inserted k.processes p _ q alive)
 alive_stays chosen k (Share_slot p g d pipes) pid inside q by other f alive = stays_inserted k.processes p _ q alive

@@ -2,9 +2,9 @@
 use Rattle.std.proofs.Common.{◌≡◌, ◌≢◌, ℕ, ◌+◌, Bool, List, [], cond, Option, Some, None, refl, sym, ap, subst, ◌∙◌, ◌==◌, eq-eqb, ne_eqb, nat_cmp, inl, inr}
 use Rattle.model.specs.FiniteMap.{FinMap, get, empty, insert, get-empty}
 use Rattle.std.proofs.lemmas.Bool.{cases_eq}
-use Rattle.model.specs.State.{Kind, Kernel, Inode, File, Directory, Pipe, Description, Process, kind, kind_of, mapped}
+use Rattle.model.specs.State.{Kind, Kernel, Inode, File, Directory, Pipe, Fixed, Description, Process, kind, kind_of, mapped}
 use Rattle.model.specs.Calls.{Slot, slot_of}
-use Rattle.model.specs.Changes.{Edit, Made, number, Mode, Make_directory, Make_file, Name_file, Unname_file, Unname_directory, Move, Put_bytes, Cut, Take, Append, Set_offset, Open_inode, Make_pipe, Share_slot, Clear_slot, New_process, End_process, applied, process_of, set_inode, set_offset, at_offset, set_process, set_description, at_start, with_slot, without_slot, open_at, to_read, to_write}
+use Rattle.model.specs.Changes.{Edit, Made, number, Mode, Make_directory, Make_file, Make_fixed, Name_file, Unname_file, Unname_directory, Move, Put_bytes, Cut, Take, Append, Set_offset, Set_rights, Open_inode, Make_pipe, Share_slot, Clear_slot, New_process, End_process, applied, process_of, set_inode, set_offset, at_offset, set_process, set_description, at_start, with_slot, without_slot, open_at, to_read, to_write}
 use Rattle.call_laws.specs.Fits.{table_of, fixed_of, IsAlive, OwnAlike, Fits, IsBy}
 use Rattle.model.proofs.Laws.{get_same, get_other}
 use Rattle.call_laws.proofs.Maps.{not_none, from_insert, removed_same}
@@ -131,6 +131,7 @@ pub own_stays_alike : (chosen : List ℕ) (now later : Kernel) (e : Edit) (pid :
 unfolding applied
 own_stays_alike chosen now later (Make_directory d x i) pid inside by f g h = inode_stays _ _ pid d _ _ refl (inode_stays now later pid _ (Directory empty) (Directory empty) refl h)
 own_stays_alike chosen now later (Make_file d x i) pid inside by f g h = inode_stays _ _ pid d _ _ refl (inode_stays now later pid _ (File []) (File []) refl h)
+own_stays_alike chosen now later (Make_fixed d x fixed i) pid inside by f g h = inode_stays _ _ pid d _ _ refl (inode_stays now later pid _ (Fixed fixed) (Fixed fixed) refl h)
 own_stays_alike chosen now later (Name_file d x n) pid inside by f g h = inode_stays now later pid d _ _ refl h
 own_stays_alike chosen now later (Unname_file d x n) pid inside by f g h = inode_stays now later pid d _ _ refl h
 own_stays_alike chosen now later (Unname_directory d x n) pid inside by f g h = inode_stays now later pid d _ _ refl h
@@ -141,6 +142,7 @@ own_stays_alike chosen now later (Take p count) pid inside by f g h = inode_stay
 own_stays_alike chosen now later (Append p bytes) pid inside by f g h = inode_stays now later pid p _ _ refl h
 own_stays_alike chosen now later (Set_offset d place) pid inside by f g h =
     own_trans _ later _ pid (own_trans _ now later pid (own_sym now _ pid (offset_alone now pid d place (get now.descriptions d) refl)) h) (offset_alone later pid d place (get later.descriptions d) refl)
+own_stays_alike chosen now later (Set_rights n rights) pid inside by f g h = record { root = h.root; largest = h.largest; table = h.table; fixed = h.fixed }
 own_stays_alike chosen now later (Open_inode i inode how q f) pid inside by can could h =
     subst (OwnAlike (applied chosen (Open_inode i inode how q f) now) (applied chosen (Open_inode i inode how q f) later)) by (open_stays now later (number chosen (Made i)) (number chosen inode) how q f (could.kind ∙ sym can.kind) (subst (OwnAlike now later) (sym by) h))
 own_stays_alike chosen now later (Make_pipe i q f g) pid inside by can could h =

@@ -1,9 +1,9 @@
 -- What a process sees of itself is left alone by the edits of another.
 use Rattle.std.proofs.Common.{◌≡◌, ◌≢◌, ℕ, Bool, List, [], Option, Some, None, refl, sym, ap, subst, ◌∙◌, nat_cmp}
 use Rattle.model.specs.FiniteMap.{FinMap, get, empty}
-use Rattle.model.specs.State.{Name, A_directory, Kernel, Inode, File, Directory, Pipe, Description, kind, kind_of, mapped}
+use Rattle.model.specs.State.{Name, A_directory, Kernel, Inode, File, Directory, Pipe, Fixed, Description, kind, kind_of, mapped}
 use Rattle.model.specs.Calls.{slot_of}
-use Rattle.model.specs.Changes.{Edit, Mode, Make_directory, Make_file, Name_file, Unname_file, Unname_directory, Move, Put_bytes, Cut, Take, Append, Set_offset, Open_inode, Make_pipe, Share_slot, Clear_slot, New_process, End_process, applied, process_of, set_inode, set_name, clear_name, set_description, at_start, with_slot, open_at, to_read, to_write}
+use Rattle.model.specs.Changes.{Edit, Mode, Make_directory, Make_file, Make_fixed, Name_file, Unname_file, Unname_directory, Move, Put_bytes, Cut, Take, Append, Set_offset, Set_rights, Open_inode, Make_pipe, Share_slot, Clear_slot, New_process, End_process, applied, process_of, set_inode, set_name, clear_name, set_description, at_start, with_slot, open_at, to_read, to_write}
 use Rattle.call_laws.specs.Fits.{table_of, fixed_of, IsAlive, IsUnused, OwnAlike, Fits, IsBy}
 use Rattle.call_laws.specs.WellFormed.{WellFormed, CanBeOpened}
 use Rattle.model.proofs.Laws.{get_other, unchanged_by}
@@ -64,6 +64,7 @@ pub own_is_left_alone : (chosen : List ℕ) (k : Kernel) (e : Edit) (pid other :
 unfolding applied
 own_is_left_alone chosen k (Make_directory d x i) pid other inside by away alive well f = make_alone k pid d x _ (Directory empty) well f.1.inode f.0.parent.directory
 own_is_left_alone chosen k (Make_file d x i) pid other inside by away alive well f = make_alone k pid d x _ (File []) well f.1.inode f.0.parent.directory
+own_is_left_alone chosen k (Make_fixed d x fixed i) pid other inside by away alive well f = make_alone k pid d x _ (Fixed fixed) well f.1.inode f.0.parent.directory
 own_is_left_alone chosen k (Name_file d x n) pid other inside by away alive well f = inode_alone k pid d _ f.0.parent.directory
 own_is_left_alone chosen k (Unname_file d x n) pid other inside by away alive well f = inode_alone k pid d _ f.parent.directory
 own_is_left_alone chosen k (Unname_directory d x n) pid other inside by away alive well f = inode_alone k pid d _ f.0.parent.directory
@@ -75,6 +76,7 @@ own_is_left_alone chosen k (Cut n before after) pid other inside by away alive w
 own_is_left_alone chosen k (Take p count) pid other inside by away alive well f = inode_alone k pid p _ f.0
 own_is_left_alone chosen k (Append p bytes) pid other inside by away alive well f = inode_alone k pid p _ f.0
 own_is_left_alone chosen k (Set_offset d place) pid other inside by away alive well f = offset_alone k pid d place (get k.descriptions d) refl
+own_is_left_alone chosen k (Set_rights n rights) pid other inside by away alive well f = record { root = refl; largest = refl; table = refl; fixed = λ t d is. refl }
 own_is_left_alone chosen k (Open_inode i inode how q f) pid other inside by away alive well can = open_alone k _ _ how q f pid (λ e. away (e ∙ by)) (can.unused.unheld pid)
 own_is_left_alone chosen k (Make_pipe i q f g) pid other inside by away alive well can = pipe_alone k _ _ _ q f g pid (λ e. away (e ∙ by)) well can.pipe.inode can.reader can.writer
 own_is_left_alone chosen k (Share_slot q f d pipes) pid other inside by away alive well can = other_alone k pid q _ k.made (λ e. away (e ∙ by))

@@ -61,6 +61,7 @@ well_start root setup = record {
   slots = λ pid f d is. absurd ((start_new root setup).empty pid f d is);
   low = λ pid f d is. absurd ((start_new root setup).empty pid f d is);
   descriptions = λ d it is. absurd (empty_gives nat_cmp d it is);
+  rights = λ n set is. absurd (empty_gives nat_cmp n set is);
   counted = (start_new root setup).counted;
 }
   where
@@ -76,8 +77,9 @@ unfolding tidy
 tidy_start root setup =
     let k : Kernel = start root setup in
     let descriptions : retain_keys k.descriptions (is_held k) ≡ k.descriptions = same_map nat_cmp_total nat_cmp-IsAntisymmetric _ _ (λ d. get_retained k.descriptions (is_held k) d ∙ none_or (is_held k d) (get k.descriptions d) (get-empty nat_cmp d)) in
+    let rights : retain_keys k.rights (reached k) ≡ k.rights = same_map nat_cmp_total nat_cmp-IsAntisymmetric _ _ (λ n. get_retained k.rights (reached k) n ∙ none_or (reached k n) (get k.rights n) (get-empty nat_cmp n)) in
     let inodes : retain_keys k.inodes (reached k) ≡ k.inodes = same_map nat_cmp_total nat_cmp-IsAntisymmetric _ _ (λ n. get_retained k.inodes (reached k) n ∙ elim (cases_eq n root) [
       | inl same ↦ ap (λ b. cond b (get k.inodes n) None) (ap (reached k) same ∙ root_reached k)
       | inr away ↦ none_or (reached k n) (get k.inodes n) (get_other empty root n (Directory empty) away ∙ get-empty nat_cmp n)
     ]) in
-    λ i. record { root = root; inodes = inodes i; descriptions = descriptions i; processes = k.processes; made = k.made; largest = k.largest }
+    λ i. record { root = root; inodes = inodes i; rights = rights i; descriptions = descriptions i; processes = k.processes; made = k.made; largest = k.largest }

@@ -1,18 +1,20 @@
 -- What is there stays through each edit, and what comes has a chosen number.
-use Rattle.std.proofs.Common.{◌≡◌, ◌≢◌, ◌⊎◌, ℕ, ◌+◌, true, List, [], ◌∷◌, Some, None, sym, ap, subst, ◌∙◌, inl, inr}
+use Rattle.std.proofs.Common.{◌≡◌, ◌≢◌, ◌⊎◌, ℕ, ◌+◌, true, List, [], ◌∷◌, Option, Some, None, refl, sym, ap, subst, ◌∙◌, inl, inr}
 use Rattle.std.proofs.lemmas.Bool.{cases_eq}
 use Rattle.model.specs.FiniteMap.{FinMap, get, empty, remove}
-use Rattle.model.specs.State.{name_cmp, Kind, A_file, A_directory, A_pipe, Kernel, Inode, File, Directory, Pipe, Description, kind, mapped, names_of, kind_of}
-use Rattle.model.specs.Aspects.{Aspect, Entry, Names, Size, Block, Links, Ends, Offset, Front, Back}
-use Rattle.model.specs.Changes.{Edit, Made, number, Mode, Make_directory, Make_file, Name_file, Unname_file, Unname_directory, Move, Put_bytes, Cut, Take, Append, Set_offset, Open_inode, Make_pipe, Share_slot, Clear_slot, New_process, End_process, applied, all_applied, set_inode, set_name, clear_name, at_offset, at_start, set_description, open_at, to_read, to_write}
+use Rattle.model.specs.State.{name_cmp, Kind, A_file, A_directory, A_pipe, A_link, Kernel, Inode, File, Directory, Pipe, Fixed, Description, kind, mapped, names_of, kind_of}
+use Rattle.model.specs.Aspects.{Aspect, Entry, Names, Size, Block, Links, Ends, Offset, Front, Back, Target, Rights}
+use Rattle.model.specs.Changes.{Edit, Made, number, Mode, Make_directory, Make_file, Make_fixed, Name_file, Unname_file, Unname_directory, Move, Put_bytes, Cut, Take, Append, Set_offset, Set_rights, Open_inode, Make_pipe, Share_slot, Clear_slot, New_process, End_process, applied, all_applied, set_inode, set_name, clear_name, at_offset, at_start, set_description, open_at, to_read, to_write}
 use Rattle.model.specs.Moments.{is_in}
 use Rattle.call_laws.specs.Objects.{IsThere}
+use Rattle.call_laws.specs.WellFormed.{CanBeLinked}
 use Rattle.call_laws.specs.CallLaws.{object_of}
 use Rattle.call_laws.specs.Fits.{Fits, FitsAll}
 use Rattle.model.proofs.Laws.{get_other, unchanged_by}
 use Rattle.call_laws.proofs.Maps.{not_none, stays_inserted}
 use Rattle.call_laws.proofs.edits.Names.{has_names}
 use Rattle.call_laws.proofs.edits.NamesAlike.{kept_kind}
+use Rattle.call_laws.proofs.edits.InodeMarks.{some_linked}
 use Rattle.call_laws.proofs.edits.Offsets.{set_there}
 
 pub record Grows (chosen : List ℕ) (k after : Kernel) : Type 0 where
@@ -79,6 +81,7 @@ pub edit_grows : (chosen : List ℕ) (k : Kernel) (e : Edit) → Fits chosen k e
 unfolding applied
 edit_grows chosen k (Make_directory d x i) f = made_grows chosen k d _ (number chosen (Made i)) (Directory empty) f.1.inode f.2 f.0.parent.directory
 edit_grows chosen k (Make_file d x i) f = made_grows chosen k d _ (number chosen (Made i)) (File []) f.1.inode f.2 f.0.parent.directory
+edit_grows chosen k (Make_fixed d x fixed i) f = made_grows chosen k d _ (number chosen (Made i)) (Fixed fixed) f.1.inode f.2 f.0.parent.directory
 edit_grows chosen k (Name_file d x n) f = same_grows chosen k d _ f.0.parent.directory
 edit_grows chosen k (Unname_file d x n) f = same_grows chosen k d _ f.parent.directory
 edit_grows chosen k (Unname_directory d x n) f = same_grows chosen k d _ f.0.parent.directory
@@ -89,6 +92,7 @@ edit_grows chosen k (Cut n before after) f = same_grows chosen k n _ f.0
 edit_grows chosen k (Take p count) f = same_grows chosen k p _ f.0
 edit_grows chosen k (Append p bytes) f = same_grows chosen k p _ f.0
 edit_grows chosen k (Set_offset d place) f = subst (Grows chosen k) (sym (set_there k d place f.0 f.1)) (described_grows chosen k d (at_offset place f.0) (inl (λ none. not_none f.0 (sym f.1 ∙ none))))
+edit_grows chosen k (Set_rights n rights) f = record { kinds = λ t what e. e; descriptions = λ d e. e; old_kinds = λ t what e. inl e; old_descriptions = λ d e. inl e }
 edit_grows chosen k (Open_inode i inode how q f) can = open_grows chosen k (number chosen (Made i)) (number chosen inode) how q f can.listed
 edit_grows chosen k (Make_pipe i q f g) can =
     let p : ℕ = number chosen (Made i) in
@@ -105,6 +109,14 @@ pub all_grow : (chosen : List ℕ) (es : List Edit) (k : Kernel) → FitsAll cho
 all_grow chosen [] k f = grows_none chosen k
 all_grow chosen (e ∷ es) k f = then_grows chosen k (applied chosen e k) (all_applied chosen es (applied chosen e k)) (edit_grows chosen k e f.0) (all_grow chosen es (applied chosen e k) f.1)
 
+-- what is of some kind
+of_some : (k after : Kernel) (n : ℕ) (P : Type 0) → ((what : Kind) → kind_of k n ≡ Some what → (kind_of after n ≡ Some what) ⊎ P) → kind_of k n ≢ None → (kind_of after n ≢ None) ⊎ P
+of_some k after n P kinds is = by_kind (kind_of k n) refl
+  where
+    by_kind : (o : Option Kind) → kind_of k n ≡ o → (kind_of after n ≢ None) ⊎ P
+    by_kind None e = absurd (is e)
+    by_kind (Some what) e = elim (kinds what e) [ inl still ↦ inl (λ none. not_none what (sym still ∙ none)) | inr new ↦ inr new ]
+
 -- what is shown of kinds and descriptions is shown of each aspect's object
 of_object : (k after : Kernel) (P : ℕ → Type 0) → ((t : ℕ) (what : Kind) → kind_of k t ≡ Some what → (kind_of after t ≡ Some what) ⊎ P t)
     → ((d : ℕ) → get k.descriptions d ≢ None → (get after.descriptions d ≢ None) ⊎ P d) → (a : Aspect) → IsThere k a → IsThere after a ⊎ P (object_of a)
@@ -112,7 +124,11 @@ of_object k after P kinds descriptions (Entry d x) is = kinds d A_directory is
 of_object k after P kinds descriptions (Names d) is = kinds d A_directory is
 of_object k after P kinds descriptions (Size n) is = kinds n A_file is
 of_object k after P kinds descriptions (Block n block) is = kinds n A_file is
-of_object k after P kinds descriptions (Links n) is = kinds n A_file is
+of_object k after P kinds descriptions (Links n) is =
+    let some = some_linked (kind_of k n) is in
+    elim (kinds n some.0 some.1) [ inl e ↦ inl (subst CanBeLinked (some.1 ∙ sym e) is) | inr new ↦ inr new ]
+of_object k after P kinds descriptions (Target n) is = kinds n A_link is
+of_object k after P kinds descriptions (Rights n) is = of_some k after n (P n) (kinds n) is
 of_object k after P kinds descriptions (Ends p) is = kinds p A_pipe is
 of_object k after P kinds descriptions (Front p) is = kinds p A_pipe is
 of_object k after P kinds descriptions (Back p) is = kinds p A_pipe is

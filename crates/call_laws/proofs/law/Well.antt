@@ -3,10 +3,11 @@ use Rattle.std.proofs.Common.{◌≡◌, ◌≢◌, ◌⊎◌, ℕ, suc, ◌<◌
 use Rattle.std.specs.Cmp.Lexicographic.{nat_list_cmp_total}
 use Rattle.std.proofs.lemmas.Bool.{cases_eq}
 use Rattle.model.specs.FiniteMap.{FinMap, get, empty, insert, remove}
-use Rattle.model.specs.State.{Name, Kind, A_file, A_directory, A_pipe, Kernel, Inode, File, Directory, Pipe, Description, Process, kind_of, names_of, file_of, pipe_of, links}
+use Rattle.model.specs.State.{Name, Kind, A_file, A_directory, A_pipe, Kernel, Inode, File, Directory, Pipe, Fixed, Description, Process, Fixed_content, Link_to, Fifo, Socket, Rights, kind_of, names_of, file_of, pipe_of, links}
+use Rattle.ids.specs.Fixed.{fixed_kind}
 use Rattle.model.specs.Moments.{is_alive}
-use Rattle.model.specs.Changes.{Edit, Made, number, Mode, Make_directory, Make_file, Name_file, Unname_file, Unname_directory, Move, Put_bytes, Cut, Take, Append, Set_offset, Open_inode, Make_pipe, Share_slot, Clear_slot, New_process, End_process, applied, all_applied, process_of, set_inode, set_name, clear_name, set_process, set_description, at_offset, at_start, with_slot, without_slot, open_at, to_read, to_write, sized, written}
-use Rattle.call_laws.specs.WellFormed.{WellFormed, CanBeOpened, descriptor_limit}
+use Rattle.model.specs.Changes.{Edit, Made, number, Mode, Make_directory, Make_file, Make_fixed, Name_file, Unname_file, Unname_directory, Move, Put_bytes, Cut, Take, Append, Set_offset, Set_rights, Open_inode, Make_pipe, Share_slot, Clear_slot, New_process, End_process, applied, all_applied, process_of, set_inode, set_name, clear_name, set_rights, set_process, set_description, at_offset, at_start, with_slot, without_slot, open_at, to_read, to_write, sized, written}
+use Rattle.call_laws.specs.WellFormed.{WellFormed, CanBeNamed, CanBeOpened, descriptor_limit}
 use Rattle.call_laws.specs.Fits.{Fits, FitsAll, table_of, IsAlive, CanPipe}
 use Rattle.model.proofs.Laws.{get_same, get_other}
 use Rattle.call_laws.proofs.Maps.{not_none, from_insert, from_remove, removed_same, removed_other, empty_gives, none_by_keys}
@@ -17,7 +18,7 @@ use Rattle.call_laws.proofs.edits.Offsets.{set_there}
 use Rattle.call_laws.proofs.edits.Processes.{table_in, table_here, table_there}
 use Rattle.call_laws.proofs.edits.Ends.{without_process}
 use Rattle.call_laws.proofs.edits.SlotsAlike.{with_tables, pipe_at}
-use Rattle.call_laws.proofs.edits.InodeMarks.{file_is_other, still_gives, other_old}
+use Rattle.call_laws.proofs.edits.InodeMarks.{linked_is_other, still_gives, other_old}
 use Rattle.call_laws.proofs.law.There.{edit_grows}
 use Rattle.call_laws.proofs.edits.NamesWell.{NamesAreWell, bytes_names, made_names, linked_names, unnamed_names, moved_names, new_names, has_names_in}
 use Rattle.call_laws.proofs.edits.Tree.{HasPaths, same_tree, made_tree, linked_tree, unnamed_tree, bytes_tree, moved_tree, new_tree}
@@ -39,8 +40,15 @@ tables_of k well = record { slots = well.slots; low = well.low; descriptions = w
 pub tree_of : (k : Kernel) → WellFormed k → HasPaths k
 tree_of k well = record { leads = well.leads }
 
-well_by : (k after : Kernel) → after.root ≡ k.root → KindsStay k after → WellFormed k → NamesAreWell k after → HasPaths after → TablesAreWell after → WellFormed after
-well_by k after root stay well names tree tables = record {
+there_still : (k after : Kernel) → KindsStay k after → (n : ℕ) → kind_of k n ≢ None → kind_of after n ≢ None
+there_still k after stay n there none = there (by_kind (kind_of k n) refl)
+  where
+    by_kind : (o : Option Kind) → kind_of k n ≡ o → o ≡ None
+    by_kind None e = refl
+    by_kind (Some what) e = absurd (not_none what (sym (stay n what e) ∙ none))
+
+well_by : (k after : Kernel) → after.root ≡ k.root → after.rights ≡ k.rights → KindsStay k after → WellFormed k → NamesAreWell k after → HasPaths after → TablesAreWell after → WellFormed after
+well_by k after root kept stay well names tree tables = record {
   root = ap (kind_of after) root ∙ stay k.root A_directory well.root;
   root_unnamed = ap (links after) root ∙ names.root_unnamed;
   names = names.named;
@@ -50,6 +58,7 @@ well_by k after root stay well names tree tables = record {
   slots = tables.slots;
   low = tables.low;
   descriptions = tables.descriptions;
+  rights = λ n set is. there_still k after stay n (well.rights n set (ap (λ rs. get rs n) (sym kept) ∙ is));
   counted = tables.counted;
 }
 
@@ -170,18 +179,44 @@ names_here k well = record { root_unnamed = well.root_unnamed; named = well.name
 
 -- other slots, descriptions and processes over the same inodes
 well_over : (k : Kernel) (ds : FinMap nat_cmp Description) (ps : FinMap nat_cmp Process) (made : ℕ) → WellFormed k → TablesAreWell (with_tables k ds ps made) → WellFormed (with_tables k ds ps made)
-well_over k ds ps made well tables = well_by k (with_tables k ds ps made) refl (λ t what is. is) well (names_over k k ds ps made (names_here k well)) (tree_over k ds ps made (tree_of k well)) tables
+well_over k ds ps made well tables = well_by k (with_tables k ds ps made) refl refl (λ t what is. is) well (names_over k k ds ps made (names_here k well)) (tree_over k ds ps made (tree_of k well)) tables
+
+-- the rights of an inode that is there
+rights_well : (k : Kernel) (n : ℕ) (rights : Rights) → kind_of k n ≢ None → WellFormed k → WellFormed (set_rights n rights k)
+unfolding links
+rights_well k n rights there well = record {
+  root = well.root;
+  root_unnamed = well.root_unnamed;
+  names = well.names;
+  one_name = well.one_name;
+  parents = well.parents;
+  leads = (same_tree k (set_rights n rights k) refl (λ t. refl) (λ t. refl) (λ t. refl) (tree_of k well)).leads;
+  slots = well.slots;
+  low = well.low;
+  descriptions = well.descriptions;
+  rights = λ m set is. elim (from_insert k.rights n m rights set is) [
+    | inl here ↦ subst (λ m. kind_of k m ≢ None) (sym here.0) there
+    | inr other ↦ well.rights m set other.1
+  ];
+  counted = well.counted;
+}
+
+-- what never changes may be named
+fixed_named : (fixed : Fixed_content) → CanBeNamed (Some (fixed_kind fixed))
+fixed_named (Link_to target) = tt
+fixed_named Fifo = tt
+fixed_named Socket = tt
 
 -- a new inode with its name
 well_made : (chosen : List ℕ) (k : Kernel) (d : ℕ) (x : Name) (n : ℕ) (new : Inode) → WellFormed k → KindsStay k (set_name d x n (set_inode n new k)) → NamesAreWell k (set_name d x n (set_inode n new k)) → HasPaths (set_name d x n (set_inode n new k))
     → get k.inodes n ≡ None → kind_of k d ≡ Some A_directory → WellFormed (set_name d x n (set_inode n new k))
 well_made chosen k d x n new well stay names tree none is =
     let is_still : kind_of (set_inode n new k) d ≡ Some A_directory = kept_kind k n d new A_directory none is in
-    well_by k (set_name d x n (set_inode n new k)) refl stay well names tree
+    well_by k (set_name d x n (set_inode n new k)) refl refl stay well names tree
     (inode_tables (set_inode n new k) d _ (λ t what e. (has_names (set_inode n new k) d _ is_still).kinds t ∙ e) (inode_tables k n new (λ t what e. kept_kind k n t new what none e) (tables_of k well)))
 
 bytes_well : (k : Kernel) (n : ℕ) (new : Inode) → WellFormed k → HasBytes k (set_inode n new k) → WellFormed (set_inode n new k)
-bytes_well k n new well has = well_by k (set_inode n new k) refl (λ t what e. has.kinds t ∙ e) well (bytes_names k n new well has) (bytes_tree k n new has (tree_of k well)) (inode_tables k n new (λ t what e. has.kinds t ∙ e) (tables_of k well))
+bytes_well k n new well has = well_by k (set_inode n new k) refl refl (λ t what e. has.kinds t ∙ e) well (bytes_names k n new well has) (bytes_tree k n new has (tree_of k well)) (inode_tables k n new (λ t what e. has.kinds t ∙ e) (tables_of k well))
 
 pub well_stays : (chosen : List ℕ) (k : Kernel) (e : Edit) → WellFormed k → Fits chosen k e → WellFormed (applied chosen e k)
 unfolding applied
@@ -195,22 +230,27 @@ well_stays chosen k (Make_file d x i) well f =
     let stay : KindsStay k (applied chosen (Make_file d x i) k) = (edit_grows chosen k (Make_file d x i) f).kinds in
     let new : IsNew k (set_inode n (File []) k) n A_file = is_new k n (File []) f.1.inode refl refl refl in
     well_made chosen k d x n (File []) well stay (made_names k d x n (File []) well stay f.1 new tt f.0.parent f.0.free) (made_tree k d x n (File []) f.1.inode new f.0.parent f.0.free (tree_of k well)) f.1.inode f.0.parent.directory
+well_stays chosen k (Make_fixed d x fixed i) well f =
+    let n : ℕ = number chosen (Made i) in
+    let stay : KindsStay k (applied chosen (Make_fixed d x fixed i) k) = (edit_grows chosen k (Make_fixed d x fixed i) f).kinds in
+    let new : IsNew k (set_inode n (Fixed fixed) k) n (fixed_kind fixed) = is_new k n (Fixed fixed) f.1.inode refl refl refl in
+    well_made chosen k d x n (Fixed fixed) well stay (made_names k d x n (Fixed fixed) well stay f.1 new (fixed_named fixed) f.0.parent f.0.free) (made_tree k d x n (Fixed fixed) f.1.inode new f.0.parent f.0.free (tree_of k well)) f.1.inode f.0.parent.directory
 well_stays chosen k (Name_file d x n) well f =
     let stay : KindsStay k (set_name d x n k) = (edit_grows chosen k (Name_file d x n) f).kinds in
-    well_by k (set_name d x n k) refl stay well (linked_names k d x n well f.0.parent f.0.free f.1) (linked_tree k d x n f.0.parent f.0.free f.1 (tree_of k well)) (inode_tables k d _ stay (tables_of k well))
+    well_by k (set_name d x n k) refl refl stay well (linked_names k d x n well f.0.parent f.0.free f.1) (linked_tree k d x n f.0.parent f.0.free f.1 (tree_of k well)) (inode_tables k d _ stay (tables_of k well))
 well_stays chosen k (Unname_file d x n) well f =
     let stay : KindsStay k (clear_name d x k) = (edit_grows chosen k (Unname_file d x n) f).kinds in
-    let bare : (y : Name) (m : ℕ) → get (names_of k n) y ≢ Some m = λ y m e. file_is_other k n n (has_names_in k n y m e) f.kind refl in
-    well_by k (clear_name d x k) refl stay well (unnamed_names k d x n well f.parent.directory f.gives bare) (unnamed_tree k d x n well f.parent.directory f.gives bare (well.one_name n) (tree_of k well)) (inode_tables k d _ stay (tables_of k well))
+    let bare : (y : Name) (m : ℕ) → get (names_of k n) y ≢ Some m = λ y m e. linked_is_other k n n (has_names_in k n y m e) f.kind refl in
+    well_by k (clear_name d x k) refl refl stay well (unnamed_names k d x n well f.parent.directory f.gives bare) (unnamed_tree k d x n well f.parent.directory f.gives bare (well.one_name n) (tree_of k well)) (inode_tables k d _ stay (tables_of k well))
 well_stays chosen k (Unname_directory d x n) well f =
     let stay : KindsStay k (clear_name d x k) = (edit_grows chosen k (Unname_directory d x n) f).kinds in
     let bare : (y : Name) (m : ℕ) → get (names_of k n) y ≢ Some m = λ y m e. not_none m (sym e ∙ none_by_keys nat_list_cmp_total (names_of k n) f.1 y) in
-    well_by k (clear_name d x k) refl stay well (unnamed_names k d x n well f.0.parent.directory f.0.gives bare) (unnamed_tree k d x n well f.0.parent.directory f.0.gives bare (well.one_name n) (tree_of k well)) (inode_tables k d _ stay (tables_of k well))
+    well_by k (clear_name d x k) refl refl stay well (unnamed_names k d x n well f.0.parent.directory f.0.gives bare) (unnamed_tree k d x n well f.0.parent.directory f.0.gives bare (well.one_name n) (tree_of k well)) (inode_tables k d _ stay (tables_of k well))
 well_stays chosen k (Move d x e y n replaced) well f =
     let stay : KindsStay k (set_name e y n (clear_name d x k)) = (edit_grows chosen k (Move d x e y n replaced) f).kinds in
     let still : get (names_of (clear_name d x k) e) y ≡ f.old = still_gives k d x e y n f.old f.from.parent.directory f.from.gives f.gives (other_old k n f.old replaced f.replaces) in
     let from_stay : KindsStay k (clear_name d x k) = λ t what is. (has_names k d (remove (names_of k d) x) f.from.parent.directory).kinds t ∙ is in
-    well_by k (set_name e y n (clear_name d x k)) refl stay well
+    well_by k (set_name e y n (clear_name d x k)) refl refl stay well
     (moved_names k d x e y n f.old replaced well f.from.parent.directory f.onto f.from.gives f.gives still f.replaces)
     (moved_tree k d x e y n f.old replaced well f.from.parent.directory f.onto f.from.gives f.gives still f.replaces f.no_ring (tree_of k well))
     (inode_tables (clear_name d x k) e _ (λ t what is. (has_names (clear_name d x k) e _ (from_stay e A_directory f.onto.directory)).kinds t ∙ is) (inode_tables k d _ from_stay (tables_of k well)))
@@ -220,13 +260,14 @@ well_stays chosen k (Take p count) well f = bytes_well k p (Pipe (drop count (pi
 well_stays chosen k (Append p bytes) well f = bytes_well k p (Pipe (pipe_of k p ++ bytes)) well (has_bytes k p _ (sym f.0) refl (no_names_pipe _ f.0))
 well_stays chosen k (Set_offset d place) well f = subst WellFormed (sym (set_there k d place f.0 f.1))
     (well_over k (insert k.descriptions d (at_offset place f.0)) k.processes k.made well (described_tables k d (at_offset place f.0) (well.descriptions d f.0 f.1) (tables_of k well)))
+well_stays chosen k (Set_rights n rights) well f = rights_well k n rights f well
 well_stays chosen k (Open_inode i inode how q f) well can = well_over k _ _ k.made well (open_tables k _ _ how q f (subst CanBeOpened (sym can.kind) tt) can.slot.alive can.slot.low (tables_of k well))
 well_stays chosen k (Make_pipe i q f g) well can =
     let p : ℕ = number chosen (Made i) in
     let new : IsNew k (set_inode p (Pipe []) k) p A_pipe = is_new k p (Pipe []) can.pipe.inode refl refl refl in
     let other : A_pipe ≢ A_directory = λ e. absurd cc in
     let stay : KindsStay k (set_inode p (Pipe []) k) = λ t what is. kept_kind k p t (Pipe []) what can.pipe.inode is in
-    well_by k (applied chosen (Make_pipe i q f g) k) refl stay well
+    well_by k (applied chosen (Make_pipe i q f g) k) refl refl stay well
     (names_over k (set_inode p (Pipe []) k) _ _ k.made (new_names k p (Pipe []) well can.pipe.inode new stay other))
     (tree_over (set_inode p (Pipe []) k) _ _ k.made (new_tree k p (Pipe []) new other (tree_of k well)))
     (pipe_tables chosen k _ _ _ q f g can (tables_of k well))

@@ -91,6 +91,7 @@ well_tidy k well = record {
   descriptions = λ d it e.
       let old = retained_some k.descriptions (is_held k) d it e in
       subst CanBeOpened (sym (at_reached (mapped kind) k it.inode (open_reached k d it old.0 old.1))) (well.descriptions d it old.1);
+  rights = λ n set is. let old = retained_some k.rights (reached k) n set is in λ none. well.rights n set old.1 (sym (at_reached (mapped kind) k n old.0) ∙ none);
   counted = well.counted;
 }
 
@@ -99,6 +100,7 @@ pub nowhere_tidy : (k : Kernel) (n : ℕ) → IsNowhere k n → IsNowhere (tidy 
 unfolding tidy
 nowhere_tidy k n h = record {
   inode = retained_none k.inodes (reached k) n h.inode;
+  rights = retained_none k.rights (reached k) n h.rights;
   description = retained_none k.descriptions (is_held k) n h.description;
   unnamed = λ d x e. h.unnamed d x (names_left k d x n e);
   unheld = h.unheld;

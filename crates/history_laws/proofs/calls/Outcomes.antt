@@ -2,17 +2,17 @@
 -- of processes is of the caller's own table.
 use Rattle.std.proofs.Common.{◌≡◌, ℕ, List, [], ◌∷◌, Bool, true, false, not, ◌||◌, ◌&&◌, Option, Some, None, Result, Ok, Err, IfOk, refl, ap, ◌==◌, nat_lt, nat_le, if◌then◌else◌, length}
 use Rattle.std.specs.Prelude.{⊤, ℤ, pos, negsuc, ◌+ℤ◌}
-use Rattle.std.specs.List.{AllByRecursion}
+use Rattle.std.specs.List.{AllByRecursion, list_any}
 use Rattle.std.proofs.lemmas.Bool.{false≢true}
 use Rattle.model.proofs.Laws.{append-all}
-use Rattle.model.specs.State.{Name, A_file, A_directory, A_pipe, Kernel}
-use Rattle.model.specs.Plan.{Errno, EAGAIN, EBADF, EBUSY, EEXIST, EFBIG, EINVAL, EISDIR, ENAMETOOLONG, ENOENT, ENOTDIR, ENOTEMPTY, EPERM, EPIPE, ESPIPE, Shown, answer, Plan, Give, Refuse, Ask, ◌>>=◌, refuse_if, or_refuse, given}
+use Rattle.model.specs.State.{Name, A_file, A_directory, A_pipe, A_link, A_fifo, A_socket, Kernel}
+use Rattle.model.specs.Plan.{Errno, EAGAIN, EBADF, EBUSY, EEXIST, EFBIG, EINVAL, EISDIR, ELOOP, ENAMETOOLONG, ENOENT, ENOTDIR, ENOTEMPTY, ENXIO, EPERM, EPIPE, ESPIPE, Shown, answer, Plan, Give, Refuse, Ask, ◌>>=◌, refuse_if, or_refuse, given}
 use Rattle.model.specs.Paths.{is_empty, is_below, is_no_name, with_first, names_in, names_behind, absolute_names, path_names, pieces}
-use Rattle.model.specs.Walks.{told, parsed, Place, is_directory, look, walk, Last, last, last_of}
+use Rattle.model.specs.Walks.{told, parsed, Place, is_directory, is_link, look, walk, Last, last, last_of}
 use Rattle.model.specs.Changes.{Edit, Replaced, Open_inode, Make_pipe, Share_slot, Clear_slot, New_process, End_process}
 use Rattle.ids.specs.Flags.{is_reading, is_writing, is_creating, is_exclusive, is_truncating}
-use Rattle.model.specs.Calls.{own, Call, Open, Close, Read, Pread, Write, Pwrite, Lseek, Ftruncate, Truncate, Stat, Fstat, Link, Unlink, Rename, Mkdir, Rmdir, List_directory, Dup, Dup2, Open_pipe, Fork, Exit, Whence, From_start, From_offset, From_end, OpenFlags, Answer, Child, Slot, Own}
-use Rattle.model.specs.Plans.{Change, plan, is_pipe, status, cut_to, opened, read_pipe, read_some, place_to_write, write_some, offset_named, write_from, sought, base, replaced_by_name, move_onto, moved, absent, duplicated, piped, forked, first_of_free, slot, slot_at, free}
+use Rattle.model.specs.Calls.{own, Call, Open, Close, Read, Pread, Write, Pwrite, Lseek, Ftruncate, Truncate, Stat, Fstat, Link, Unlink, Rename, Mkdir, Rmdir, List_directory, Symlink, Readlink, Lstat, Mknod, Chmod, Chown, Fchmod, Fchown, Dup, Dup2, Open_pipe, Fork, Exit, Whence, From_start, From_offset, From_end, OpenFlags, Answer, Child, Slot, Own}
+use Rattle.model.specs.Plans.{Change, plan, target_limit, is_pipe, status, is_special, cut_to, opened, read_pipe, read_some, place_to_write, write_some, offset_named, write_from, sought, base, replaced_by_name, move_onto, moved, absent, duplicated, piped, forked, first_of_free, slot, slot_at, free}
 use Rattle.model.specs.Entries.{is_unsupported, is_inside, answer_in}
 use Rattle.model.specs.Replies.{answered}
 use Rattle.model.specs.Steps.{outcome, reply, reply_of}
@@ -84,7 +84,8 @@ parsed_any : (bytes : List ℕ) → Ends Any (parsed bytes)
 parsed_any bytes = told_any (path_names bytes) (fine_path bytes)
 
 look_any : (place : Place) (x : Name) → Ends Any (look place x)
-look_any place x = then_any Any (refuse_if (not (is_directory place)) ENOTDIR) _ (tested _ ENOTDIR refl) (λ _ a. tt)
+look_any place x = then_any Any (refuse_if (is_link place) ELOOP) _ (tested _ ELOOP refl) (λ _.
+    then_any Any (refuse_if (not (is_directory place)) ENOTDIR) _ (tested _ ENOTDIR refl) (λ _ a. tt))
 
 walk_any : (place : Place) (xs : List Name) → Ends Any (walk place xs)
 walk_any place [] = tt
@@ -117,9 +118,12 @@ pub record Tame (pid : ℕ) (c : Change) : Type 0 where
   pub childless : is_child c.reply ≡ false
 
 tame_status : (pid : ℕ) (place : Place) → Ends (Tame pid) (status place)
-tame_status pid (n, Some A_file) = λ a b. record { edits = tt; childless = refl }
-tame_status pid (n, Some A_directory) = record { edits = tt; childless = refl }
-tame_status pid (n, Some A_pipe) = record { edits = tt; childless = refl }
+tame_status pid (n, Some A_file) = λ a b c. record { edits = tt; childless = refl }
+tame_status pid (n, Some A_directory) = λ a. record { edits = tt; childless = refl }
+tame_status pid (n, Some A_pipe) = λ a. record { edits = tt; childless = refl }
+tame_status pid (n, Some A_link) = λ a b c. record { edits = tt; childless = refl }
+tame_status pid (n, Some A_fifo) = λ a b. record { edits = tt; childless = refl }
+tame_status pid (n, Some A_socket) = λ a b. record { edits = tt; childless = refl }
 tame_status pid (n, None) = refl
 
 cut_by : (pid : ℕ) (n len : ℕ) → Ends (AllByRecursion (IsOf pid)) (cut_to n len)
@@ -134,8 +138,10 @@ tame_opened own flags f at None = then_any (Tame own.pid) (refuse_if (not (is_cr
 tame_opened own flags f at (Some place) =
     then_any (Tame own.pid) (refuse_if (is_creating flags && is_exclusive flags) EEXIST) _ (tested _ EEXIST refl) (λ _.
     then_any (Tame own.pid) (refuse_if (is_directory place) EISDIR) _ (tested _ EISDIR refl) (λ _.
+    then_any (Tame own.pid) (refuse_if (is_link place) ELOOP) _ (tested _ ELOOP refl) (λ _.
+    then_any (Tame own.pid) (refuse_if (is_special place) ENXIO) _ (tested _ ENXIO refl) (λ _.
     then_by (AllByRecursion (IsOf own.pid)) (Tame own.pid) (if is_truncating flags then cut_to place.0 0 else Give []) _ (cut_if own.pid _ place.0) (λ cut h.
-    record { edits = append-all (IsOf own.pid) cut _ h (refl, tt); childless = refl })))
+    record { edits = append-all (IsOf own.pid) cut _ h (refl, tt); childless = refl })))))
 
 tame_read_pipe : (pid p : ℕ) (bytes : List ℕ) → Ends (Tame pid) (read_pipe p bytes)
 tame_read_pipe pid p [] = λ ends. then_any (Tame pid) (refuse_if (nat_lt 0 ends.1) EAGAIN) _ (tested _ EAGAIN refl) (λ _. record { edits = tt; childless = refl })
@@ -250,9 +256,12 @@ tame_plan own (Ftruncate f len) is = then_any (Tame own.pid) (slot own f) _ (slo
 tame_plan own (Truncate path len) is = then_any (Tame own.pid) (parsed path) _ (parsed_any path) (λ names.
     then_any (Tame own.pid) (walk (own.root, Some A_directory) names) _ (walk_any _ names) (λ place.
     then_any (Tame own.pid) (refuse_if (is_directory place) EISDIR) _ (tested _ EISDIR refl) (λ _.
-    then_any (Tame own.pid) (refuse_if (nat_lt own.largest len) EFBIG) _ (tested _ EFBIG refl) (λ _ size. record { edits = (tt, tt); childless = refl }))))
+    then_any (Tame own.pid) (refuse_if (is_link place) ELOOP) _ (tested _ ELOOP refl) (λ _.
+    then_any (Tame own.pid) (refuse_if (is_special place) EINVAL) _ (tested _ EINVAL refl) (λ _.
+    then_any (Tame own.pid) (refuse_if (nat_lt own.largest len) EFBIG) _ (tested _ EFBIG refl) (λ _ size. record { edits = (tt, tt); childless = refl }))))))
 tame_plan own (Stat path) is = then_any (Tame own.pid) (parsed path) _ (parsed_any path) (λ names.
-    then_any (Tame own.pid) (walk (own.root, Some A_directory) names) _ (walk_any _ names) (λ place. tame_status own.pid place))
+    then_any (Tame own.pid) (walk (own.root, Some A_directory) names) _ (walk_any _ names) (λ place.
+    then_any (Tame own.pid) (refuse_if (is_link place) ELOOP) _ (tested _ ELOOP refl) (λ _. tame_status own.pid place)))
 tame_plan own (Fstat f) is = then_any (Tame own.pid) (slot own f) _ (slot_any own f) (λ it. tame_status own.pid (it.inode, it.kind))
 tame_plan own (Link old path) is =
     then_any (Tame own.pid) (parsed old) _ (parsed_any old) (λ from_names.
@@ -287,7 +296,32 @@ tame_plan own (Rmdir path) is =
 tame_plan own (List_directory path) is =
     then_any (Tame own.pid) (parsed path) _ (parsed_any path) (λ names.
     then_any (Tame own.pid) (walk (own.root, Some A_directory) names) _ (walk_any _ names) (λ place.
-    then_any (Tame own.pid) (refuse_if (not (is_directory place)) ENOTDIR) _ (tested _ ENOTDIR refl) (λ _ entries. record { edits = tt; childless = refl })))
+    then_any (Tame own.pid) (refuse_if (is_link place) ELOOP) _ (tested _ ELOOP refl) (λ _.
+    then_any (Tame own.pid) (refuse_if (not (is_directory place)) ENOTDIR) _ (tested _ ENOTDIR refl) (λ _ entries. record { edits = tt; childless = refl }))))
+tame_plan own (Symlink target path) is =
+    then_any (Tame own.pid) (refuse_if (is_empty target) ENOENT) _ (tested _ ENOENT refl) (λ _.
+    then_any (Tame own.pid) (refuse_if (nat_lt target_limit (length target)) ENAMETOOLONG) _ (tested _ ENAMETOOLONG refl) (λ _.
+    then_any (Tame own.pid) (refuse_if (list_any (λ b. b == 0) target) EINVAL) _ (tested _ EINVAL refl) (λ _.
+    then_any (Tame own.pid) (parsed path) _ (parsed_any path) (λ names.
+    then_any (Tame own.pid) (last_of own.root EEXIST names) _ (last_of_any own.root EEXIST names refl) (λ at.
+    then_any (Tame own.pid) (absent at.found) _ (absent_any at.found) (λ _. record { edits = (tt, tt); childless = refl }))))))
+tame_plan own (Readlink path) is =
+    then_any (Tame own.pid) (parsed path) _ (parsed_any path) (λ names.
+    then_any (Tame own.pid) (walk (own.root, Some A_directory) names) _ (walk_any _ names) (λ place.
+    then_any (Tame own.pid) (refuse_if (not (is_link place)) EINVAL) _ (tested _ EINVAL refl) (λ _ target. record { edits = tt; childless = refl })))
+tame_plan own (Lstat path) is = then_any (Tame own.pid) (parsed path) _ (parsed_any path) (λ names.
+    then_any (Tame own.pid) (walk (own.root, Some A_directory) names) _ (walk_any _ names) (λ place. tame_status own.pid place))
+tame_plan own (Mknod path special) is =
+    then_any (Tame own.pid) (parsed path) _ (parsed_any path) (λ names.
+    then_any (Tame own.pid) (last_of own.root EEXIST names) _ (last_of_any own.root EEXIST names refl) (λ at.
+    then_any (Tame own.pid) (absent at.found) _ (absent_any at.found) (λ _. record { edits = (tt, tt); childless = refl })))
+tame_plan own (Chmod path permissions) is = then_any (Tame own.pid) (parsed path) _ (parsed_any path) (λ names.
+    then_any (Tame own.pid) (walk (own.root, Some A_directory) names) _ (walk_any _ names) (λ place.
+    then_any (Tame own.pid) (refuse_if (is_link place) ELOOP) _ (tested _ ELOOP refl) (λ _ rights. record { edits = (tt, tt); childless = refl })))
+tame_plan own (Chown path owner) is = then_any (Tame own.pid) (parsed path) _ (parsed_any path) (λ names.
+    then_any (Tame own.pid) (walk (own.root, Some A_directory) names) _ (walk_any _ names) (λ place rights. record { edits = (tt, tt); childless = refl }))
+tame_plan own (Fchmod f permissions) is = then_any (Tame own.pid) (slot own f) _ (slot_any own f) (λ it rights. record { edits = (tt, tt); childless = refl })
+tame_plan own (Fchown f owner) is = then_any (Tame own.pid) (slot own f) _ (slot_any own f) (λ it rights. record { edits = (tt, tt); childless = refl })
 tame_plan own (Dup f) is = then_any (Tame own.pid) (slot own f) _ (slot_any own f) (λ it. tame_duplicated own it (free own))
 tame_plan own (Dup2 f g) is = then_any (Tame own.pid) (slot own f) _ (slot_any own f) (λ it.
     then_any (Tame own.pid) (refuse_if (nat_lt 63 g) EBADF) _ (tested _ EBADF refl) (λ _. either (Tame own.pid) (f == g) _ _ (record { edits = tt; childless = refl }) (record { edits = (refl, tt); childless = refl })))

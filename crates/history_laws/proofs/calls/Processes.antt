@@ -6,7 +6,7 @@ use Rattle.std.proofs.lemmas.Bool.{cases_Bool, cases_eq, false≢true}
 use Rattle.model.specs.FiniteMap.{get, insert, remove, get-remove}
 use Rattle.model.specs.State.{Kernel, Description, Process}
 use Rattle.model.specs.Plan.{Errno, EAGAIN, given, refuse_if, ◌>>◌}
-use Rattle.model.specs.Changes.{Edit, Make_directory, Make_file, Name_file, Unname_file, Unname_directory, Move, Put_bytes, Cut, Take, Append, Set_offset, Open_inode, Make_pipe, Share_slot, Clear_slot, New_process, End_process, set_offset, process_of, or_new, with_slot, without_slot, applied, all_applied, tidy, number, Made, to_read, open_at, set_inode}
+use Rattle.model.specs.Changes.{Edit, Make_directory, Make_file, Make_fixed, Name_file, Unname_file, Unname_directory, Move, Put_bytes, Cut, Take, Append, Set_offset, Set_rights, Open_inode, Make_pipe, Share_slot, Clear_slot, New_process, End_process, set_offset, process_of, or_new, with_slot, without_slot, applied, all_applied, tidy, number, Made, to_read, open_at, set_inode}
 use Rattle.model.specs.Calls.{own, Call, Fork, Exit, Answer, Child}
 use Rattle.model.specs.Plans.{Change, plan, changed, pipes_in}
 use Rattle.model.specs.Steps.{outcome, reply, reply_of, edits, edits_of}
@@ -56,6 +56,7 @@ pub edit_same : (chosen : List ℕ) (pid : ℕ) (e : Edit) (k : Kernel) → IsOf
 unfolding applied
 edit_same chosen pid (Make_directory d x i) k h alive = record { made = refl; alive = λ q. refl; priority = λ q. refl }
 edit_same chosen pid (Make_file d x i) k h alive = record { made = refl; alive = λ q. refl; priority = λ q. refl }
+edit_same chosen pid (Make_fixed d x fixed i) k h alive = record { made = refl; alive = λ q. refl; priority = λ q. refl }
 edit_same chosen pid (Name_file d x n) k h alive = record { made = refl; alive = λ q. refl; priority = λ q. refl }
 edit_same chosen pid (Unname_file d x n) k h alive = record { made = refl; alive = λ q. refl; priority = λ q. refl }
 edit_same chosen pid (Unname_directory d x n) k h alive = record { made = refl; alive = λ q. refl; priority = λ q. refl }
@@ -65,6 +66,7 @@ edit_same chosen pid (Cut n before after) k h alive = record { made = refl; aliv
 edit_same chosen pid (Take p count) k h alive = record { made = refl; alive = λ q. refl; priority = λ q. refl }
 edit_same chosen pid (Append p bytes) k h alive = record { made = refl; alive = λ q. refl; priority = λ q. refl }
 edit_same chosen pid (Set_offset d place) k h alive = offset_same d place (get k.descriptions d) k
+edit_same chosen pid (Set_rights n rights) k h alive = record { made = refl; alive = λ q. refl; priority = λ q. refl }
 edit_same chosen pid (Open_inode i inode mode p f) k h alive = slot_kept k _ p (with_slot f (number chosen (Made i)) (process_of k p)) refl refl refl (ap (is_alive k) h ∙ alive)
 edit_same chosen pid (Make_pipe i p f g) k h alive =
     let lives : is_alive k p ≡ true = ap (is_alive k) h ∙ alive in

@@ -3,7 +3,7 @@ use Rattle.std.proofs.Common.{◌≡◌, ◌≢◌, ℕ, List, [], ◌∷◌, �
 use Rattle.std.specs.Prelude.{◌||◌, ◌&&◌}
 use Rattle.std.proofs.lemmas.Bool.{cases_Bool, cases_eq, both_ways, false≢true, ne_eqb}
 use Rattle.model.specs.State.{Kernel}
-use Rattle.model.specs.Aspects.{Aspect, Entry, Names, Size, Block, Links, Ends, Offset, Front, Back}
+use Rattle.model.specs.Aspects.{Aspect, Entry, Names, Size, Block, Links, Ends, Offset, Front, Back, Target, Rights}
 use Rattle.model.specs.Changes.{tidy}
 use Rattle.model.specs.Paths.{same_name}
 use Rattle.model.specs.State.{Name}
@@ -39,6 +39,8 @@ same_aspect_turned (Ends d) (Ends e) = eqb_turned d e
 same_aspect_turned (Offset d) (Offset e) = eqb_turned d e
 same_aspect_turned (Front d) (Front e) = eqb_turned d e
 same_aspect_turned (Back d) (Back e) = eqb_turned d e
+same_aspect_turned (Target d) (Target e) = eqb_turned d e
+same_aspect_turned (Rights d) (Rights e) = eqb_turned d e
 same_aspect_turned a b = refl
 
 or_turned : (a b : Bool) → (a || b) ≡ (b || a)

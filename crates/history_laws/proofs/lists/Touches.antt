@@ -4,7 +4,7 @@ use Rattle.std.specs.Prelude.{◌||◌, ◌&&◌}
 use Rattle.std.specs.List.{AllByRecursion}
 use Rattle.std.proofs.lemmas.Bool.{and_from, both_ways, false≢true, eq-eqb}
 use Rattle.model.specs.State.{Name, Kernel}
-use Rattle.model.specs.Aspects.{Aspect, Entry, Names, Size, Block, Links, Ends, Offset, Front, Back, Keeps, KeepsAll}
+use Rattle.model.specs.Aspects.{Aspect, Entry, Names, Size, Block, Links, Ends, Offset, Front, Back, Target, Rights, Keeps, KeepsAll}
 use Rattle.model.specs.Calls.{Call}
 use Rattle.model.specs.Paths.{same_name}
 use Rattle.model.specs.Steps.{Touch, reads, writes, touches}
@@ -26,6 +26,8 @@ same_aspect_refl (Ends p) = eq-eqb p p refl
 same_aspect_refl (Offset d) = eq-eqb d d refl
 same_aspect_refl (Front p) = eq-eqb p p refl
 same_aspect_refl (Back p) = eq-eqb p p refl
+same_aspect_refl (Target n) = eq-eqb n n refl
+same_aspect_refl (Rights n) = eq-eqb n n refl
 
 abbrev pub written : Aspect → Touch
 written a = record { aspect = a; write = true }

@@ -6,7 +6,7 @@ use Rattle.std.proofs.lemmas.Bool.{cases_Bool, both_ways}
 use Rattle.model.specs.State.{Kernel}
 use Rattle.model.specs.Aspects.{Aspect, Names, Size, Block, Links, Ends, Keeps}
 use Rattle.model.specs.Plan.{blocks}
-use Rattle.model.specs.Changes.{Edit, Make_directory, Make_file, Name_file, Unname_file, Unname_directory, Move, Put_bytes, Cut, Take, Append, Set_offset, Share_slot, Clear_slot, New_process, End_process, marks, all_applied, tidy, file_replaced}
+use Rattle.model.specs.Changes.{Edit, Make_directory, Make_file, Make_fixed, Name_file, Unname_file, Unname_directory, Move, Put_bytes, Cut, Take, Append, Set_offset, Set_rights, Share_slot, Clear_slot, New_process, End_process, marks, all_applied, tidy, file_replaced}
 use Rattle.model.specs.Calls.{Call, own}
 use Rattle.model.specs.Steps.{Touch, reads, writes, reply, edits, touches, IsNowhere, CanBeChosen, Run}
 use Rattle.call_laws.specs.Objects.{IsThere, LeavesAlone}
@@ -189,6 +189,7 @@ unless false n = (λ d e. absurd cc, tt)
 no_names_marked : (e : Edit) → AllByRecursion NotNames (marks e)
 no_names_marked (Make_directory d x i) = (λ d e. absurd cc, tt)
 no_names_marked (Make_file d x i) = (λ d e. absurd cc, tt)
+no_names_marked (Make_fixed d x fixed i) = (λ d e. absurd cc, tt)
 no_names_marked (Name_file d x n) = (λ d e. absurd cc, (λ d e. absurd cc, tt))
 no_names_marked (Unname_file d x n) = (λ d e. absurd cc, (λ d e. absurd cc, tt))
 no_names_marked (Unname_directory d x n) = (λ d e. absurd cc, tt)
@@ -198,6 +199,7 @@ no_names_marked (Cut n before after) = append-all NotNames _ _ (unless (before =
 no_names_marked (Take p count) = (λ d e. absurd cc, tt)
 no_names_marked (Append p bytes) = (λ d e. absurd cc, tt)
 no_names_marked (Set_offset d place) = (λ d e. absurd cc, tt)
+no_names_marked (Set_rights n rights) = (λ d e. absurd cc, tt)
 no_names_marked (Share_slot pid f d pipes) = all_map Ends (λ x d e. absurd cc) pipes
 no_names_marked (Clear_slot pid f pipes) = all_map Ends (λ x d e. absurd cc) pipes
 no_names_marked (New_process child parent pipes) = all_map Ends (λ x d e. absurd cc) pipes

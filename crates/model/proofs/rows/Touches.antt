@@ -1,7 +1,7 @@
 -- What the calls of worked rows touch.
 use Rattle.std.proofs.Common.{◌≡◌, List, [], ◌∷◌, ◌++◌, map, pos, refl, replicate}
 use Rattle.std.specs.Prelude.{codes}
-use Rattle.model.specs.Aspects.{Entry, Names, Size, Block, Links, Ends, Offset, Front, Back}
+use Rattle.model.specs.Aspects.{Entry, Names, Size, Block, Links, Ends, Offset, Front, Back, Rights}
 use Rattle.model.specs.Plan.{rising}
 use Rattle.model.specs.Calls.{From_start, Open, Close, Read, Pread, Write, Pwrite, Lseek, Ftruncate, Truncate, Stat, Fstat, Link, Unlink, Rename, Mkdir, Rmdir, List_directory, Dup, Dup2, Open_pipe, Fork, Exit}
 use Rattle.model.specs.Steps.{reads, writes}
@@ -95,7 +95,7 @@ emptied_when_opened : writes (last_state fresh (made_a ++ (1, Write 0 (codes "xy
 unfolding runs
 emptied_when_opened = refl
 
-status_of_a_file : reads (last_state fresh made_a) 1 (Fstat 0) ≡ Size 1 ∷ Links 1 ∷ []
+status_of_a_file : reads (last_state fresh made_a) 1 (Fstat 0) ≡ Size 1 ∷ Links 1 ∷ Rights 1 ∷ []
 unfolding runs
 status_of_a_file = refl
 

@@ -1,15 +1,16 @@
 -- Worked rows of transactions, by running the definitions: each operation's reply and the processes that it dooms.
-use Rattle.std.proofs.Common.{◌≡◌, ℕ, List, [], ◌∷◌, Bool, true, false, pos, refl}
+use Rattle.std.proofs.Common.{◌≡◌, ℕ, List, [], ◌∷◌, Bool, true, false, Some, None, pos, refl}
 use Rattle.std.specs.Prelude.{codes}
-use Rattle.model.specs.Aspects.{Entry as EntryOf, Names, Size}
+use Rattle.model.specs.Aspects.{Entry as EntryOf, Names, Size, Links, Rights}
+use Rattle.model.specs.State.{A_file, A_directory}
 use Rattle.model.specs.Plan.{EAGAIN, ENOENT, ENOTSUP}
-use Rattle.model.specs.Calls.{From_start, Call, Close, Lseek, Fstat, Unlink, Rename, Open_pipe, Pair, Child, Open, Read, Write, Stat, List_directory, Mkdir, Fork, Exit, Done, Descriptor, Count, New_place, Bytes, Listing}
+use Rattle.model.specs.Calls.{From_start, Call, Close, Lseek, Fstat, Link, Unlink, Rename, Symlink, Readlink, Lstat, Chmod, Chown, Fchmod, Open_pipe, Pair, Child, Open, Read, Write, Stat, List_directory, Mkdir, Fork, Exit, Done, Descriptor, Count, New_place, Bytes, Listing}
 use Rattle.model.specs.Entries.{BeginFlags, Op, Do, Begin, End, Abort, Cause, Clash, Unsupported, Reply, Answers, Refuses, Begun, Committed, GivenUp, Aborted, Busy, InTransaction, NotInTransaction, HistoryFull, NoProcess}
 use Rattle.model.specs.Forgetting.{whole}
 use Rattle.model.specs.Moments.{live, Moment, at_start, reserved}
 use Rattle.model.specs.Modes.{mode_of, Write as Write_mode}
 use Rattle.model.specs.Replies.{Spoken, alone, Asked, all_said, moment_for}
-use Rattle.model.specs.Script.{by_default, runs, rdwr, rdwr_creat, wronly_creat, a_file, a_directory}
+use Rattle.model.specs.Script.{by_default, runs, rdwr, rdwr_creat, wronly_creat, a_file, a_directory, a_link, told_with, rights, new_owner}
 
 abbrev plain : BeginFlags
 plain = record { 0 = 0 }
@@ -34,6 +35,12 @@ entry_a write pid = record { touch = record { aspect = EntryOf 0 (codes "a"); wr
 
 abbrev size_of : ℕ → ℕ → Cause
 size_of n pid = record { touch = record { aspect = Size n; write = false }; other = pid }
+
+abbrev links_of : ℕ → ℕ → Cause
+links_of n pid = record { touch = record { aspect = Links n; write = true }; other = pid }
+
+abbrev rights_at : ℕ → Bool → ℕ → Cause
+rights_at n write pid = record { touch = record { aspect = Rights n; write = write }; other = pid }
 
 abbrev a : List ℕ
 a = codes "/a"
@@ -202,3 +209,38 @@ pipe_after_commit : all_said (whole 100) (at_start 0 (by_default (0 ∷ []))) (m
     ≡ alone (Answers (Pair 0 1)) ∷ alone (Answers (Child 2)) ∷ alone Begun ∷ alone (Answers (Count 3)) ∷ alone (Refuses EAGAIN) ∷ alone Committed ∷ alone (Answers (Bytes (97 ∷ 98 ∷ 99 ∷ []))) ∷ []
 unfolding runs
 pipe_after_commit = refl
+
+-- a link that is made in a transaction is read by others after the commit
+link_made_inside : all_said (whole 100) two (by 1 (Begin plain) ∷ making 1 (Symlink (codes "t") a) (7 ∷ []) ∷ by 1 (Do (Readlink a)) ∷ by 2 (Do (Readlink a)) ∷ by 1 End ∷ by 2 (Do (Readlink a)) ∷ [])
+    ≡ alone Begun ∷ alone (Answers Done) ∷ alone (Answers (Bytes (codes "t"))) ∷ alone (Refuses ENOENT) ∷ alone Committed ∷ alone (Answers (Bytes (codes "t"))) ∷ []
+unfolding runs
+link_made_inside = refl
+
+-- one more name of a link clashes with what has counted its names, and not with what has read its target
+link_counted : all_said (whole 100) two (making 1 (Symlink (codes "t") a) (7 ∷ []) ∷ by 1 (Begin plain) ∷ by 1 (Do (Lstat a)) ∷ by 2 (Begin plain) ∷ by 2 (Do (Link a b)) ∷ by 1 End ∷ [])
+    ≡ alone (Answers Done) ∷ alone Begun ∷ alone (Answers (a_link 7 1 1)) ∷ alone Begun ∷ alone (Aborted (Clash (links_of 7 1)) false) ∷ alone Committed ∷ []
+unfolding runs
+link_counted = refl
+
+link_read : all_said (whole 100) two (making 1 (Symlink (codes "t") a) (7 ∷ []) ∷ by 1 (Begin plain) ∷ by 1 (Do (Readlink a)) ∷ by 2 (Begin plain) ∷ by 2 (Do (Link a b)) ∷ by 2 End ∷ by 1 (Do (Readlink b)) ∷ by 1 End ∷ [])
+    ≡ alone (Answers Done) ∷ alone Begun ∷ alone (Answers (Bytes (codes "t"))) ∷ alone Begun ∷ alone (Answers Done) ∷ alone Committed ∷ alone (Answers (Bytes (codes "t"))) ∷ alone Committed ∷ []
+unfolding runs
+link_read = refl
+
+-- a mode that is set in a transaction is seen by others after the commit, and not after an abort
+mode_set_inside : all_said (whole 100) two (making 1 (Mkdir d) (7 ∷ []) ∷ by 1 (Begin plain) ∷ by 1 (Do (Chmod d 448)) ∷ by 1 (Do (Stat d)) ∷ by 1 End ∷ by 2 (Do (Stat d)) ∷ by 1 (Begin plain) ∷ by 1 (Do (Chmod d 0)) ∷ by 1 (Abort false) ∷ by 2 (Do (Stat d)) ∷ [])
+    ≡ alone (Answers Done) ∷ alone Begun ∷ alone (Answers Done) ∷ alone (Answers (told_with (rights 448 0 0) A_directory 7 0 1)) ∷ alone Committed ∷ alone (Answers (told_with (rights 448 0 0) A_directory 7 0 1)) ∷ alone Begun ∷ alone (Answers Done) ∷ alone (GivenUp false) ∷ alone (Answers (told_with (rights 448 0 0) A_directory 7 0 1)) ∷ []
+unfolding runs
+mode_set_inside = refl
+
+-- a mode that is set clashes with what was told of the object, and with another one that is set
+mode_clashes : all_said (whole 100) two (making 1 (Mkdir d) (7 ∷ []) ∷ by 1 (Begin plain) ∷ by 1 (Do (Stat d)) ∷ by 2 (Do (Chmod d 448)) ∷ by 1 End ∷ by 1 (Begin plain) ∷ by 1 (Do (Chmod d 0)) ∷ by 2 (Begin plain) ∷ by 2 (Do (Chown d (new_owner (Some 1) None))) ∷ by 1 End ∷ [])
+    ≡ alone (Answers Done) ∷ alone Begun ∷ alone (Answers (a_directory 7)) ∷ dooming (Answers Done) (1 ∷ []) ∷ alone (Aborted (Clash (rights_at 7 false 2)) false) ∷ alone Begun ∷ alone (Answers Done) ∷ alone Begun ∷ alone (Aborted (Clash (rights_at 7 false 1)) false) ∷ alone Committed ∷ []
+unfolding runs
+mode_clashes = refl
+
+-- and not with what is written to the file, nor with its other names
+mode_beside : all_said (whole 100) two (making 1 (Open a rdwr_creat) (7 ∷ 8 ∷ []) ∷ by 1 (Begin plain) ∷ by 1 (Do (Fchmod 0 384)) ∷ by 2 (Begin plain) ∷ by 2 (Do (Link a b)) ∷ by 2 End ∷ by 1 (Do (Write 0 (113 ∷ []))) ∷ by 1 End ∷ by 2 (Do (Stat b)) ∷ [])
+    ≡ alone (Answers (Descriptor 0)) ∷ alone Begun ∷ alone (Answers Done) ∷ alone Begun ∷ alone (Answers Done) ∷ alone Committed ∷ alone (Answers (Count 1)) ∷ alone Committed ∷ alone (Answers (told_with (rights 384 0 0) A_file 7 1 2)) ∷ []
+unfolding runs
+mode_beside = refl

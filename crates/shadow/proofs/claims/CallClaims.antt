@@ -5,10 +5,10 @@ use Rattle.std.proofs.Common.{List, [], ◌∷◌, ◌++◌, append-nil, refl, s
 use Rattle.std.proofs.Common.{arith, inl, inr, ◌⊎◌}
 use Rattle.std.proofs.lemmas.List.Sums.{sum_by-cons}
 use Rattle.ids.specs.declared.edit.Mode.{Mode}
-use Rattle.model.specs.State.{Kernel, Name}
-use Rattle.model.specs.Changes.{Append, Clear_slot, Cut, Edit, Make_directory, Make_file, Make_pipe, Open_inode, Take}
+use Rattle.model.specs.State.{Fixed_content, Kernel, Name, Rights}
+use Rattle.model.specs.Changes.{Append, Clear_slot, Cut, Edit, Make_directory, Make_file, Make_fixed, Make_pipe, Open_inode, Take}
 use Rattle.model.specs.Changes.{Move, Name_file, Replaced, Share_slot, Unname_file}
-use Rattle.model.specs.Changes.{Put_bytes, Set_offset, Unname_directory, Which, all_applied}
+use Rattle.model.specs.Changes.{Put_bytes, Set_offset, Set_rights, Unname_directory, Which, all_applied}
 use Rattle.model.specs.Changes.{applied, news, tidy}
 use Rattle.call_laws.specs.Fits.{Fits, FitsAll}
 use Rattle.freeing_laws.specs.Sweep.{IsTidied}
@@ -62,8 +62,8 @@ all_others (m ∷ ms) n =
 -- the claims of one edit
 claimed_alone : (chosen : List ℕ) (e : Edit) → IsOne e → ClaimsAlone chosen e
 claimed_alone chosen e one =
-    by_one (ClaimsAlone chosen) directory file unnaming linking unlinking renaming put cut opening
-    moving clearing sharing taking appending piping e one
+    by_one (ClaimsAlone chosen) directory file never_changing unnaming linking unlinking renaming put cut opening
+    moving clearing sharing taking appending piping setting e one
   where
     unnaming : (d : ℕ) (x : Name) (m : ℕ) → ClaimsAlone chosen (Unname_directory d x m)
     unnaming d x m (Room r) = refl
@@ -127,6 +127,11 @@ claimed_alone chosen e one =
     piping i pid f g (New_directory n) = no_directory (new_in chosen i ∷ new_in chosen (i + 1) ∷ new_in chosen (i + 2) ∷ []) n
     piping i pid f g (Number n) = all_others (new_in chosen i ∷ new_in chosen (i + 1) ∷ new_in chosen (i + 2) ∷ []) n
 
+    setting : (m : ℕ) (rights : Rights) → ClaimsAlone chosen (Set_rights m rights)
+    setting m rights (Room r) = refl
+    setting m rights (New_directory n) = refl
+    setting m rights (Number n) = refl
+
     directory : (d : ℕ) (x : Name) (i : ℕ) → ClaimsAlone chosen (Make_directory d x i)
     directory d x i (Room r) = refl
     directory d x i (New_directory n) = and_true (new_in chosen i == n)
@@ -136,6 +141,12 @@ claimed_alone chosen e one =
     file d x i (Room r) = refl
     file d x i (New_directory n) = and_false (new_in chosen i == n)
     file d x i (Number n) = and_true (new_in chosen i == n)
+
+    never_changing : (d : ℕ) (x : Name) (fixed : Fixed_content) (i : ℕ)
+        → ClaimsAlone chosen (Make_fixed d x fixed i)
+    never_changing d x fixed i (Room r) = refl
+    never_changing d x fixed i (New_directory n) = and_false (new_in chosen i == n)
+    never_changing d x fixed i (Number n) = and_true (new_in chosen i == n)
 
     opening : (i : ℕ) (inode : Which) (mode : Mode) (pid f : ℕ)
         → ClaimsAlone chosen (Open_inode i inode mode pid f)

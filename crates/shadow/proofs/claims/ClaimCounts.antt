@@ -12,7 +12,7 @@ use Rattle.store.specs.declared.Place.{Place}
 use Rattle.store.specs.declared.Stage.{Stage}
 use Rattle.store.specs.declared.Stage.TheVariants.{Coming, Held, Removed}
 use Rattle.store.specs.declared.Object.{Object}
-use Rattle.store.specs.declared.Object.TheVariants.{Directory as Kept_directory, File as Kept_file, Pipe as Kept_pipe, Description as Kept_description, Nothing}
+use Rattle.store.specs.declared.Object.TheVariants.{Directory as Kept_directory, File as Kept_file, Pipe as Kept_pipe, Fixed as Kept_fixed, Description as Kept_description, Nothing}
 use Rattle.shadow.specs.Claims.{Claim, Room, New_directory, Number, number_of, reserved, IsDirectory, room_in, number_as, new_number, or_zero, room_of, coming_directory, coming_other, as_count}
 use Rattle.shadow.specs.Stored.{IsBare, Processes, committed_of, reserve_in}
 use Rattle.shadow.proofs.shared.PlaceLemmas.{get_chosen, place_altered, place_other, without_place}
@@ -94,6 +94,7 @@ gives_one s d there c = altered_more (with_listing more_room) s d c (room_in d c
     by_object t (Kept_directory l) there (Number m) same = omega arith
     by_object t (Kept_file file) there c same = absurd (there refl)
     by_object t (Kept_pipe pipe) there c same = absurd (there refl)
+    by_object t (Kept_fixed fixed) there c same = absurd (there refl)
     by_object t (Kept_description opened) there c same = absurd (there refl)
     by_object t Nothing there c same = absurd (there refl)
 
@@ -115,6 +116,7 @@ takes_one f low s d some c = altered_less (with_listing f) s d c (room_in d c) (
     by_object t (Kept_directory l) some (Number m) same = omega arith
     by_object t (Kept_file file) some c same = absurd (omega arith)
     by_object t (Kept_pipe pipe) some c same = absurd (omega arith)
+    by_object t (Kept_fixed fixed) some c same = absurd (omega arith)
     by_object t (Kept_description opened) some c same = absurd (omega arith)
     by_object t Nothing some c same = absurd (omega arith)
 
@@ -136,14 +138,18 @@ hides_coming b s n some c = altered_less hidden s n c (number_as b n c) (no_numb
     by_object (Kept_directory l) false some c same = absurd (omega arith)
     by_object (Kept_file file) true some c same = absurd (omega arith)
     by_object (Kept_pipe pipe) true some c same = absurd (omega arith)
+    by_object (Kept_fixed fixed) true some c same = absurd (omega arith)
     by_object (Kept_description opened) true some c same = absurd (omega arith)
     by_object Nothing true some c same = absurd (omega arith)
     by_object (Kept_file file) false some (Room r) same = omega arith
     by_object (Kept_pipe pipe) false some (Room r) same = omega arith
+    by_object (Kept_fixed fixed) false some (Room r) same = omega arith
     by_object (Kept_file file) false some (New_directory m) same = let one : number_as false n (New_directory m) ≡ 0 = directory_here false n m same in omega arith
     by_object (Kept_pipe pipe) false some (New_directory m) same = let one : number_as false n (New_directory m) ≡ 0 = directory_here false n m same in omega arith
+    by_object (Kept_fixed fixed) false some (New_directory m) same = let one : number_as false n (New_directory m) ≡ 0 = directory_here false n m same in omega arith
     by_object (Kept_file file) false some (Number m) same = let one : number_as false n (Number m) ≡ 1 = other_here false n m same in omega arith
     by_object (Kept_pipe pipe) false some (Number m) same = let one : number_as false n (Number m) ≡ 1 = other_here false n m same in omega arith
+    by_object (Kept_fixed fixed) false some (Number m) same = let one : number_as false n (Number m) ≡ 1 = other_here false n m same in omega arith
     by_object (Kept_description opened) false some (Room r) same = omega arith
     by_object (Kept_description opened) false some (New_directory m) same = let one : number_as false n (New_directory m) ≡ 0 = directory_here false n m same in omega arith
     by_object (Kept_description opened) false some (Number m) same = let one : number_as false n (Number m) ≡ 1 = other_here false n m same in omega arith
@@ -169,6 +175,7 @@ no_room : (object : Object) → has_room (listing_of object) ≡ false → at_pl
 no_room (Kept_directory l) e = let low : l.promised ≤ 0 = ltb-false 0 l.promised e in omega arith
 no_room (Kept_file file) e = refl
 no_room (Kept_pipe pipe) e = refl
+no_room (Kept_fixed fixed) e = refl
 no_room (Kept_description opened) e = refl
 no_room Nothing e = refl
 
@@ -227,6 +234,7 @@ reserves s n object none bare c = elim (cases_eq (number_of c) n) [
     by_claim Nothing bare (Number m) same = let one : number_as false n (Number m) ≡ 1 = other_here false n m same in omega arith
     by_claim (Kept_file file) bare c same = absurd bare
     by_claim (Kept_pipe pipe) bare c same = absurd bare
+    by_claim (Kept_fixed fixed) bare c same = absurd bare
     by_claim (Kept_description opened) bare c same = absurd bare
 
 -- the first store keeps nothing

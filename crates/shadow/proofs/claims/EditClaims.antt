@@ -4,11 +4,11 @@ use Rattle.std.proofs.Common.{◌≡◌, ◌≢◌, ℕ, zero, suc, ◌+◌, ◌
 use Rattle.std.specs.List.{AllByRecursion, flat_map}
 use Rattle.std.proofs.lemmas.Bool.{cases_eq, or_right}
 use Rattle.std.proofs.lemmas.List.Sums.{sum_by-append, sum_by-cons}
-use Rattle.model.specs.Changes.{Edit, Make_directory, Make_file, Make_pipe, Open_inode, news}
+use Rattle.model.specs.Changes.{Edit, Make_directory, Make_file, Make_fixed, Make_pipe, Open_inode, news}
 use Rattle.model.specs.Moments.{is_in}
 use Rattle.model.specs.Steps.{AllDifferent}
 use Rattle.shadow.specs.declared.change.Made.{Made as What}
-use Rattle.shadow.specs.declared.change.Made.TheVariants.{Directory as Dir_made, File as File_made, Pipe as Pipe_made}
+use Rattle.shadow.specs.declared.change.Made.TheVariants.{Directory as Dir_made, File as File_made, Pipe as Pipe_made, Fixed as Fixed_made}
 use Rattle.shadow.specs.Claims.{Claim, Room, New_directory, Number, as_count, claim_in, claimed_in, is_directory_made, is_file_made, kinds_in, with_kinds}
 use Rattle.shadow.specs.Patches.{Patches, is_new, net_at, opening_at}
 use Rattle.shadow.specs.Steps.{CanEdit, IsFirst, IsLast, IsOne, TakesAll, TakesIn, made_after, new_in, opened_in, parents_in}
@@ -18,6 +18,7 @@ use Rattle.shadow.proofs.noting.EditCases.{by_one, first_cases, last_cases}
 abbrev pub mine : List ℕ → Edit → List (ℕ × Bool)
 mine chosen (Make_directory d x i) = (new_in chosen i, true) ∷ []
 mine chosen (Make_file d x i) = (new_in chosen i, false) ∷ []
+mine chosen (Make_fixed d x fixed i) = (new_in chosen i, false) ∷ []
 mine chosen (Open_inode i inode mode pid f) = (new_in chosen i, false) ∷ []
 mine chosen (Make_pipe i pid f g) = (new_in chosen i, false) ∷ (new_in chosen (i + 1), false) ∷ (new_in chosen (i + 2), false) ∷ []
 mine chosen _ = []
@@ -85,6 +86,7 @@ directory_claim : (chosen : List ℕ) (e : Edit) → IsOne e → DirectoryClaim 
 directory_claim chosen e one = by_one (DirectoryClaim chosen)
     (λ d x i n made unused. made_directory Dir_made (new_in chosen i) n made unused.0)
     (λ d x i n made unused. made_directory File_made (new_in chosen i) n made unused.0)
+    (λ d x fixed i n made unused. made_directory Fixed_made (new_in chosen i) n made unused.0)
     (λ d x m n made unused. omega arith)
     (λ d x m n made unused. omega arith)
     (λ d x m n made unused. omega arith)
@@ -98,6 +100,7 @@ directory_claim chosen e one = by_one (DirectoryClaim chosen)
     (λ p count n made unused. omega arith)
     (λ p bytes n made unused. omega arith)
     (λ i pid f g n made unused. pipe_directory (new_in chosen i) (new_in chosen (i + 1)) (new_in chosen (i + 2)) n made unused.0)
+    (λ m rights n made unused. omega arith)
     e one
 
 -- another new number's claims
@@ -122,6 +125,7 @@ made_other what m n made fresh unused =
     by_test Dir_made true h = (let none : as_count (is_file_made made) + as_count fresh ≡ 0 = unused (sym (eqb-true n m h)) in omega arith)
     by_test File_made true h = (let none : as_count (is_file_made made) + as_count fresh ≡ 0 = unused (sym (eqb-true n m h)) in omega arith)
     by_test Pipe_made true h = (let none : as_count (is_file_made made) + as_count fresh ≡ 0 = unused (sym (eqb-true n m h)) in omega arith)
+    by_test Fixed_made true h = (let none : as_count (is_file_made made) + as_count fresh ≡ 0 = unused (sym (eqb-true n m h)) in omega arith)
     by_test what false h = omega arith
 
 opened_other : (m n : ℕ) (made : Option What) (fresh : Bool) → (m ≡ n → other_claims made fresh ≡ 0)
@@ -171,6 +175,7 @@ other_claim : (chosen : List ℕ) (e : Edit) → IsOne e → OtherClaim chosen e
 other_claim chosen e one = by_one (OtherClaim chosen)
     (λ d x i three n made fresh unused. made_other Dir_made (new_in chosen i) n made fresh unused.0)
     (λ d x i three n made fresh unused. made_other File_made (new_in chosen i) n made fresh unused.0)
+    (λ d x fixed i three n made fresh unused. made_other Fixed_made (new_in chosen i) n made fresh unused.0)
     (λ d x m three n made fresh unused. omega arith)
     (λ d x m three n made fresh unused. omega arith)
     (λ d x m three n made fresh unused. omega arith)
@@ -184,6 +189,7 @@ other_claim chosen e one = by_one (OtherClaim chosen)
     (λ p count three n made fresh unused. omega arith)
     (λ p bytes three n made fresh unused. omega arith)
     (λ i pid f g three n made fresh unused. pipe_other (new_in chosen i) (new_in chosen (i + 1)) (new_in chosen (i + 2)) n made fresh three.0 three.1 three.2 unused.0 unused.1.0 unused.1.1.0)
+    (λ m rights three n made fresh unused. omega arith)
     e one
 
 each : {A : Type 0} {P Q : A → Type 0} (xs : List A) → ((x : A) → P x → Q x) → AllByRecursion P xs → AllByRecursion Q xs
@@ -252,9 +258,11 @@ first_each : (chosen : List ℕ) (P : ℕ → Type 0) (e : Edit) → IsFirst e �
 first_each chosen P e first = first_cases (λ e. ((j : ℕ) → j < news e → P (get_or chosen j 0)) → AllByRecursion (λ (z : ℕ × Bool). P z.0) (mine chosen e))
     (λ d x i is h. (subst (λ j. P (get_or chosen j 0)) (sym is) (h 0 (omega arith)), tt))
     (λ d x i is h. (subst (λ j. P (get_or chosen j 0)) (sym is) (h 0 (omega arith)), tt))
+    (λ d x fixed i is h. (subst (λ j. P (get_or chosen j 0)) (sym is) (h 0 (omega arith)), tt))
     (λ d x n h. tt) (λ d x n h. tt) (λ d x n h. tt) (λ d x e y n replaced h. tt) (λ n place bytes before h. tt) (λ n before after h. tt)
     (λ p count h. tt) (λ p bytes h. tt)
     (λ i pid f g is h. (subst (λ j. P (get_or chosen j 0)) (sym is) (h 0 (omega arith)), (subst (λ j. P (get_or chosen (j + 1) 0)) (sym is) (h 1 (omega arith)), (subst (λ j. P (get_or chosen (j + 2) 0)) (sym is) (h 2 (omega arith)), tt))))
+    (λ n rights h. tt)
     e first
 
 last_each : (chosen : List ℕ) (P : ℕ → Type 0) (m : ℕ) (e : Edit) → IsLast m e → (news e ≡ 1 → P (get_or chosen m 0)) → AllByRecursion (λ (z : ℕ × Bool). P z.0) (mine chosen e)
@@ -324,6 +332,7 @@ pub kinds_first : (chosen : List ℕ) (e : Edit) → IsFirst e → length chosen
 kinds_first chosen e first = first_cases (λ e. length chosen ≡ news e → with_kinds chosen (kinds_in e ++ []) ≡ mine chosen e ++ [])
     (λ d x i is long. one_kind true chosen i is long)
     (λ d x i is long. one_kind false chosen i is long)
+    (λ d x fixed i is long. one_kind false chosen i is long)
     (λ d x n long. ap (λ ns. with_kinds ns []) (no_more chosen long))
     (λ d x n long. ap (λ ns. with_kinds ns []) (no_more chosen long))
     (λ d x n long. ap (λ ns. with_kinds ns []) (no_more chosen long))
@@ -333,6 +342,7 @@ kinds_first chosen e first = first_cases (λ e. length chosen ≡ news e → wit
     (λ p count long. ap (λ ns. with_kinds ns []) (no_more chosen long))
     (λ p bytes long. ap (λ ns. with_kinds ns []) (no_more chosen long))
     (λ i pid f g is long. three_kinds chosen i is long)
+    (λ n rights long. ap (λ ns. with_kinds ns []) (no_more chosen long))
     e first
 
 two_kinds : (directory : Bool) (chosen : List ℕ) (i : ℕ) → i ≡ 0 → (f : Edit) → IsLast 1 f → length chosen ≡ 1 + news f → with_kinds chosen (directory ∷ (kinds_in f ++ [])) ≡ (get_or chosen i 0, directory) ∷ (mine chosen f ++ [])
@@ -354,6 +364,7 @@ pub kinds_two : (chosen : List ℕ) (e f : Edit) → IsFirst e → IsLast (news 
 kinds_two chosen e f first = first_cases (λ e. IsLast (news e) f → length chosen ≡ news e + news f → with_kinds chosen (kinds_in e ++ (kinds_in f ++ [])) ≡ mine chosen e ++ (mine chosen f ++ []))
     (λ d x i is last long. two_kinds true chosen i is f last long)
     (λ d x i is last long. two_kinds false chosen i is f last long)
+    (λ d x fixed i is last long. two_kinds false chosen i is f last long)
     (λ d x n last long. kinds_last 0 chosen chosen refl f last (long ∙ omega arith))
     (λ d x n last long. kinds_last 0 chosen chosen refl f last (long ∙ omega arith))
     (λ d x n last long. kinds_last 0 chosen chosen refl f last (long ∙ omega arith))
@@ -363,6 +374,7 @@ kinds_two chosen e f first = first_cases (λ e. IsLast (news e) f → length cho
     (λ p count last long. kinds_last 0 chosen chosen refl f last (long ∙ omega arith))
     (λ p bytes last long. kinds_last 0 chosen chosen refl f last (long ∙ omega arith))
     (λ i pid s g is last long. pipe_kinds chosen i is f last long)
+    (λ n rights last long. kinds_last 0 chosen chosen refl f last (long ∙ omega arith))
     e first
 
 pub none_claimed : (c : Claim) → claimed_in c [] [] ≡ 0

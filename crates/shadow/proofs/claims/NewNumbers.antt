@@ -7,7 +7,7 @@ use Rattle.std.proofs.lemmas.List.Concat.{flat_map-cons}
 use Rattle.std.proofs.lemmas.Grind.{flat_map-append}
 use Rattle.std.specs.Ordering.{nat_cmp}
 use Rattle.model.specs.FiniteMap.{FinMap, get}
-use Rattle.model.specs.Changes.{Edit, Make_directory, Make_file, Make_pipe, news}
+use Rattle.model.specs.Changes.{Edit, Make_directory, Make_file, Make_fixed, Make_pipe, news}
 use Rattle.model.specs.Moments.{is_in}
 use Rattle.model.specs.Steps.{AllDifferent, IsNowhere}
 use Rattle.model.proofs.Laws.{append-all}
@@ -198,12 +198,14 @@ module _ (reserves : FinMap nat_cmp Reserve) (chosen : List ℕ) (unused : AllBy
   one_apart : (e : Edit) → IsFirst e → HasParent reserves e → news e ≤ length chosen → AreApart chosen e
   one_apart (Make_directory d x i) first has few = first_apart i d first few has.0
   one_apart (Make_file d x i) first has few = first_apart i d first few has.0
+  one_apart (Make_fixed d x fixed i) first has few = first_apart i d first few has.0
   one_apart (Make_pipe i pid f g) first has few = subst (λ j. new_in chosen (j + 1) ≢ new_in chosen (j + 2)) (sym first.0) (apart_at chosen 1 2 (omega arith) (let l : 3 ≤ length chosen = few in omega arith) different)
   one_apart _ first has few = tt
 
   last_apart : (m : ℕ) (e : Edit) → IsLast m e → AreApart chosen e
   last_apart m (Make_directory d x i) last = absurd last
   last_apart m (Make_file d x i) last = absurd last
+  last_apart m (Make_fixed d x fixed i) last = absurd last
   last_apart m (Make_pipe i pid f g) last = absurd last
   last_apart m _ last = tt
 

@@ -13,7 +13,7 @@ use Rattle.model.proofs.Laws.{tie}
 use Rattle.freeing_laws.specs.Counts.{listed}
 use Rattle.shadow.specs.declared.change.InodeChange.{InodeChange}
 use Rattle.shadow.specs.declared.change.Made.{Made}
-use Rattle.shadow.specs.declared.change.Made.TheVariants.{Directory, File, Pipe}
+use Rattle.shadow.specs.declared.change.Made.TheVariants.{Directory, File, Pipe, Fixed}
 use Rattle.shadow.specs.declared.opening.Opening.{Opening}
 use Rattle.shadow.specs.Committed.{Committed}
 use Rattle.shadow.specs.Patches.{Net, Patches, is_new, kept_at, net_of, or_kept}
@@ -106,6 +106,7 @@ abbrev pub kind_made : Made → Bool
 kind_made Directory = true
 kind_made File = false
 kind_made Pipe = false
+kind_made Fixed = false
 
 abbrev pub made_part : Option Made → ℕ → Claim → ℕ
 made_part (Some what) n c = number_as (kind_made what) n c
@@ -135,13 +136,16 @@ inode_parts n net c = by_made c net.promised net.made
     by_made (Room d) p (Some Directory) = room_part (n == d) p 0 refl
     by_made (Room d) p (Some File) = room_part (n == d) p 0 refl
     by_made (Room d) p (Some Pipe) = room_part (n == d) p 0 refl
+    by_made (Room d) p (Some Fixed) = room_part (n == d) p 0 refl
     by_made (New_directory m) p (Some Directory) = with_true (n == m) p
     by_made (New_directory m) p (Some File) = with_false (n == m) p
     by_made (New_directory m) p (Some Pipe) = with_false (n == m) p
+    by_made (New_directory m) p (Some Fixed) = with_false (n == m) p
     by_made (New_directory m) p None = with_none (n == m) p
     by_made (Number m) p (Some Directory) = with_false (n == m) p
     by_made (Number m) p (Some File) = with_true (n == m) p
     by_made (Number m) p (Some Pipe) = with_true (n == m) p
+    by_made (Number m) p (Some Fixed) = with_true (n == m) p
     by_made (Number m) p None = with_none (n == m) p
 
 -- so much of the room is given back

@@ -1,5 +1,5 @@
 -- Changes of the store that are not seen in the state: numbers are reserved and given back, and promises come and go.
-use Rattle.std.proofs.Common.{◌≡◌, ◌≢◌, ℕ, ◌+◌, Bool, true, false, cond, not, Option, Some, None, refl, sym, ap, ap₂, subst, ◌∙◌, arith, lt-ltb, inl, inr}
+use Rattle.std.proofs.Common.{◌≡◌, ◌≢◌, ℕ, ◌+◌, Bool, true, false, cond, not, Option, Some, None, refl, sym, ap, subst, ◌∙◌, arith, lt-ltb, inl, inr}
 use Rattle.std.specs.Prelude.{⊤}
 use Rattle.std.specs.Option.{option_map, option_and_then}
 use Rattle.std.proofs.lemmas.Bool.{cases_eq}
@@ -13,18 +13,19 @@ use Rattle.model.proofs.Laws.{get_same, get_other}
 use Rattle.call_laws.specs.CallLaws.{CallLaws}
 use Rattle.call_laws.specs.Numbers.{UnusedNumbersAreNowhere}
 use Rattle.call_laws.specs.WellFormed.{CanBeNamed, WellFormed}
-use Rattle.call_laws.proofs.Laws.{none_count, not_none}
+use Rattle.call_laws.proofs.Laws.{none_count, not_none, unset as none_set}
 use Rattle.dirlist.specs.Listing.{Listing}
 use Rattle.store.specs.Links.{links_in}
 use Rattle.store.specs.Numbers.{IsFirstRoot, Numbers, coming, held, if_held, no_names, object_at, present}
-use Rattle.store.specs.Places.{altered, hidden, is_over, is_over_by, has_room, listing_of, changed_object, with_listing, more_room, less_room, lost, released, swept}
+use Rattle.store.specs.Places.{altered, hidden, is_over, is_over_by, has_room, listing_of, changed_object, with_listing, more_room, less_room, lost, released, swept, unset}
 use Rattle.store.specs.Shown.{inodes, descriptions, inode_in, inode_of, description_in, description_of, shown_at}
 use Rattle.store.specs.declared.Place.{Place}
 use Rattle.store.specs.declared.Stage.{Stage}
 use Rattle.store.specs.declared.Stage.TheVariants.{Coming, Held, Removed}
 use Rattle.store.specs.declared.Object.{Object}
-use Rattle.store.specs.declared.Object.TheVariants.{Directory as Kept_directory, File as Kept_file, Pipe as Kept_pipe, Description as Kept_description, Nothing}
+use Rattle.store.specs.declared.Object.TheVariants.{Directory as Kept_directory, File as Kept_file, Pipe as Kept_pipe, Fixed as Kept_fixed, Description as Kept_description, Nothing}
 use Rattle.freeing_laws.specs.Pipes.{ArePair}
+use Rattle.store.proofs.Laws.{rights-swept}
 use Rattle.shadow.specs.Stored.{FitsStage, IsBare, IsStaged, IsUnsettled, Processes, Sound, state_of, stored}
 use Rattle.shadow.proofs.shared.PlaceLemmas.{get_chosen, remove_absent, place_altered, place_other, place_over, place_swept_other, swept_stays, without_place}
 use Rattle.shadow.proofs.claims.ClaimCounts.{IsAwaited, with_place}
@@ -33,13 +34,13 @@ use Rattle.shadow.proofs.claims.ClaimCounts.{IsAwaited, with_place}
 abbrev pub ShowsNoMore : Numbers → Numbers → Type 0
 ShowsNoMore s after = (n : ℕ) (object : Object) → listing_of object ≡ None → object_at after n ≡ Some object → object_at s n ≡ Some object
 
-pub same_state : (ps : Processes) (s after : Numbers) → inodes after ≡ inodes s → descriptions after ≡ descriptions s → state_of ps after ≡ state_of ps s
-same_state ps s after is opened_same = ap₂ (stored ps) is opened_same
+pub same_state : (ps : Processes) (s after : Numbers) → inodes after ≡ inodes s → after.rights ≡ s.rights → descriptions after ≡ descriptions s → state_of ps after ≡ state_of ps s
+same_state ps s after is rights opened_same = λ i. stored ps (is i) (rights i) (opened_same i)
 
-pub same_sound : (ps : Processes) (s after : Numbers) → Sound ps s → after.root ≡ s.root → inodes after ≡ inodes s → descriptions after ≡ descriptions s
+pub same_sound : (ps : Processes) (s after : Numbers) → Sound ps s → after.root ≡ s.root → inodes after ≡ inodes s → after.rights ≡ s.rights → descriptions after ≡ descriptions s
     → ((n : ℕ) → IsStaged (get after.places n)) → ShowsNoMore s after → Sound ps after
-same_sound ps s after sound root is opened_same staged shows =
-    let same : state_of ps after ≡ state_of ps s = same_state ps s after is opened_same in
+same_sound ps s after sound root is rights opened_same staged shows =
+    let same : state_of ps after ≡ state_of ps s = same_state ps s after is rights opened_same in
     record {
       root = root ∙ sound.root;
       well = subst WellFormed (sym same) sound.well;
@@ -88,6 +89,7 @@ IsSomething Nothing = ⊥
 IsSomething (Kept_directory l) = ⊤
 IsSomething (Kept_file file) = ⊤
 IsSomething (Kept_pipe pipe) = ⊤
+IsSomething (Kept_fixed fixed) = ⊤
 IsSomething (Kept_description opened) = ⊤
 
 something : (l : Listing) → Kept_directory l ≢ Nothing
@@ -104,6 +106,7 @@ more_staged (Some place) fits = by_stage place.stage place.object fits
     by_stage Removed (Kept_directory l) fits = lt-ltb 0 (l.promised + 1) (omega arith)
     by_stage t (Kept_file file) fits = fits
     by_stage t (Kept_pipe pipe) fits = fits
+    by_stage t (Kept_fixed fixed) fits = fits
     by_stage t (Kept_description opened) fits = fits
     by_stage t Nothing fits = fits
 
@@ -118,6 +121,7 @@ less_staged (Some place) fits left = by_stage place.stage place.object fits left
     by_stage Removed (Kept_directory l) fits left = not_false (has_room (listing_of (changed_object less_room (Kept_directory l)))) left
     by_stage t (Kept_file file) fits left = fits
     by_stage t (Kept_pipe pipe) fits left = fits
+    by_stage t (Kept_fixed fixed) fits left = fits
     by_stage t (Kept_description opened) fits left = fits
     by_stage t Nothing fits left = fits
 
@@ -145,6 +149,7 @@ shows_in f s d n object none is = elim (cases_eq n d) [
     by_stage Held (Kept_directory l) is = absurd (no_listing (f l) object (some_object (Kept_directory (f l)) object is) none)
     by_stage Held (Kept_file file) is = is
     by_stage Held (Kept_pipe pipe) is = is
+    by_stage Held (Kept_fixed fixed) is = is
     by_stage Held (Kept_description opened) is = is
     by_stage Held Nothing is = is
     by_stage Coming o is = is
@@ -182,12 +187,21 @@ swept_root s n = by_test (is_over (get s.places n))
     by_test false = refl
 
 pub promised_sound : (ps : Processes) (s after : Numbers) (d : ℕ) → Sound ps s → after ≡ altered (with_listing more_room) s d → inodes after ≡ inodes s → descriptions after ≡ descriptions s → Sound ps after
-promised_sound ps s after d sound is shown opened_same = same_sound ps s after sound (ap (λ (t : Numbers). t.root) is) shown opened_same
+promised_sound ps s after d sound is shown opened_same = same_sound ps s after sound (ap (λ (t : Numbers). t.root) is) shown (ap (λ (t : Numbers). t.rights) is) opened_same
     (subst (λ (t : Numbers). (n : ℕ) → IsStaged (get t.places n)) (sym is) (altered_staged (with_listing more_room) s d sound.staged (more_staged (get s.places d) (sound.staged d))))
     (subst (ShowsNoMore s) (sym is) (shows_in more_room s d))
 
+-- of what is removed no rights are set any more
+pub released_rights : (ps : Processes) (s after : Numbers) (d : ℕ) → Sound ps s → after ≡ released s d → inodes after ≡ inodes s → after.rights ≡ s.rights
+released_rights ps s after d sound is shown = ap (λ (t : Numbers). t.rights) is ∙ rights-swept (altered (with_listing less_room) s d) d none
+  where
+    none : is_over (get (altered (with_listing less_room) s d).places d) ≡ true → get s.rights d ≡ None
+    none over = none_set (state_of ps s) d sound.well
+        (ap (λ m. get m d) (sym shown) ∙ ap (λ (t : Numbers). get (inodes t) d) is
+        ∙ get_chosen inode_in (released s d).places d ∙ ap (option_and_then inode_in) (place_over (altered (with_listing less_room) s d) d over))
+
 pub released_sound : (ps : Processes) (s after : Numbers) (d : ℕ) → Sound ps s → after ≡ released s d → inodes after ≡ inodes s → descriptions after ≡ descriptions s → Sound ps after
-released_sound ps s after d sound is shown opened_same = same_sound ps s after sound (ap (λ (t : Numbers). t.root) is ∙ swept_root (altered (with_listing less_room) s d) d) shown opened_same
+released_sound ps s after d sound is shown opened_same = same_sound ps s after sound (ap (λ (t : Numbers). t.root) is ∙ swept_root (altered (with_listing less_room) s d) d) shown (released_rights ps s after d sound is shown) opened_same
     (subst (λ (t : Numbers). (n : ℕ) → IsStaged (get t.places n)) (sym is) (altered_swept_staged (with_listing less_room) s d sound.staged (less_staged (get s.places d) (sound.staged d))))
     (subst (ShowsNoMore s) (sym is) (λ n object none there. shows_in less_room s d n object none (shows_swept (altered (with_listing less_room) s d) d n object none there)))
 
@@ -209,15 +223,18 @@ pub no_description : (b : Bool) (s : Numbers) (n : ℕ) → IsAwaited b n (get s
 no_description b s n some = get_chosen description_in s.places n ∙ coming_unseen b n description_of (get s.places n) some
 
 -- a number of an object to come is given back
-module _ (ps : Processes) (s after : Numbers) (b : Bool) (n : ℕ) (some : IsAwaited b n (get s.places n)) (shown : inodes after ≡ remove (inodes s) n) (opened_same : descriptions after ≡ remove (descriptions s) n) where
-  pub given_back_state : state_of ps after ≡ state_of ps s
-  given_back_state = same_state ps s after (shown ∙ remove_absent (inodes s) n (no_inode b s n some)) (opened_same ∙ remove_absent (descriptions s) n (no_description b s n some))
+module _ (ps : Processes) (s after : Numbers) (b : Bool) (n : ℕ) (some : IsAwaited b n (get s.places n)) (sound : Sound ps s) (shown : inodes after ≡ remove (inodes s) n) (unset_too : after.rights ≡ remove s.rights n) (opened_same : descriptions after ≡ remove (descriptions s) n) where
+  same_rights : after.rights ≡ s.rights
+  same_rights = unset_too ∙ remove_absent s.rights n (none_set (state_of ps s) n sound.well (no_inode b s n some))
 
-  pub given_back_sound : after ≡ lost s n → Sound ps s → Sound ps after
-  given_back_sound is sound = same_sound ps s after sound (ap (λ (t : Numbers). t.root) is ∙ swept_root (altered hidden s n) n)
-      (shown ∙ remove_absent (inodes s) n (no_inode b s n some)) (opened_same ∙ remove_absent (descriptions s) n (no_description b s n some))
-      (subst (λ (t : Numbers). (n : ℕ) → IsStaged (get t.places n)) (sym is) (altered_swept_staged hidden s n sound.staged (hidden_staged (get s.places n))))
-      (subst (ShowsNoMore s) (sym is) (λ m object none there. shows_hidden s n m object none (shows_swept (altered hidden s n) n m object none there)))
+  pub given_back_state : state_of ps after ≡ state_of ps s
+  given_back_state = same_state ps s after (shown ∙ remove_absent (inodes s) n (no_inode b s n some)) same_rights (opened_same ∙ remove_absent (descriptions s) n (no_description b s n some))
+
+  pub given_back_sound : after ≡ lost s n → Sound ps after
+  given_back_sound is = same_sound ps s after sound (ap (λ (t : Numbers). t.root) is ∙ swept_root (altered hidden (unset s n) n) n)
+      (shown ∙ remove_absent (inodes s) n (no_inode b s n some)) same_rights (opened_same ∙ remove_absent (descriptions s) n (no_description b s n some))
+      (subst (λ (t : Numbers). (n : ℕ) → IsStaged (get t.places n)) (sym is) (altered_swept_staged hidden (unset s n) n sound.staged (hidden_staged (get s.places n))))
+      (subst (ShowsNoMore s) (sym is) (λ m object none there. shows_hidden (unset s n) n m object none (shows_swept (altered hidden (unset s n) n) n m object none there)))
 
 -- no name gives what is to come, and it has no names
 pub links_links_in : (k : Kernel) (n : ℕ) → links k n ≡ links_in k.inodes n
@@ -237,6 +254,7 @@ bare_names (Kept_directory l) bare = bare.0
 bare_names Nothing bare = refl
 bare_names (Kept_file file) bare = absurd bare
 bare_names (Kept_pipe pipe) bare = absurd bare
+bare_names (Kept_fixed fixed) bare = absurd bare
 bare_names (Kept_description opened) bare = absurd bare
 
 unsettled : (object : Object) → IsBare object → IsUnsettled object
@@ -244,6 +262,7 @@ unsettled (Kept_directory l) bare = λ x. ap (λ (ns : FinMap name_cmp ℕ). get
 unsettled Nothing bare = tt
 unsettled (Kept_file file) bare = absurd bare
 unsettled (Kept_pipe pipe) bare = absurd bare
+unsettled (Kept_fixed fixed) bare = absurd bare
 unsettled (Kept_description opened) bare = absurd bare
 
 shows_coming : (s : Numbers) (n : ℕ) (o : Object) → ShowsNoMore s (with_place s n (coming o))
@@ -253,7 +272,7 @@ shows_coming s n o m object none is = elim (cases_eq m n) [
 ]
 
 pub reserved_sound : (ps : Processes) (s after : Numbers) (n : ℕ) (object : Object) → Sound ps s → IsBare object → after ≡ with_place s n (coming object) → inodes after ≡ inodes s → descriptions after ≡ descriptions s → Sound ps after
-reserved_sound ps s after n object sound bare is shown opened_same = same_sound ps s after sound (ap (λ (t : Numbers). t.root) is) shown opened_same
+reserved_sound ps s after n object sound bare is shown opened_same = same_sound ps s after sound (ap (λ (t : Numbers). t.root) is) shown (ap (λ (t : Numbers). t.rights) is) opened_same
     (subst (λ (t : Numbers). (n : ℕ) → IsStaged (get t.places n)) (sym is) staged) (subst (ShowsNoMore s) (sym is) (shows_coming s n object))
   where
     staged : (m : ℕ) → IsStaged (get (insert s.places n (coming object)) m)

@@ -20,7 +20,7 @@ use Rattle.store.specs.declared.Place.{Place}
 use Rattle.store.specs.declared.Stage.{Stage}
 use Rattle.store.specs.declared.Stage.TheVariants.{Coming, Held, Removed}
 use Rattle.store.specs.declared.Object.{Object}
-use Rattle.store.specs.declared.Object.TheVariants.{Directory as A_directory, File as A_file, Pipe as A_pipe}
+use Rattle.store.specs.declared.Object.TheVariants.{Directory as A_directory, File as A_file, Pipe as A_pipe, Fixed as A_fixed}
 use Rattle.store.specs.declared.Object.TheVariants.{Description as A_description, Nothing}
 use Rattle.store.proofs.Laws.{get-chosen, place-altered, place-other}
 use Rattle.shadow.specs.Stored.{FitsStage, IsStaged, Processes, reserve_in, state_of}
@@ -122,6 +122,7 @@ module _ (g : OpenFile → OpenFile) where
           → FitsStage t (changed_file g object)
       by_stage t (A_directory listing) h = h
       by_stage t (A_pipe pipe) h = h
+      by_stage t (A_fixed fixed) h = h
       by_stage t (A_description opened) h = h
       by_stage t Nothing h = h
       by_stage Coming (A_file file) h = h
@@ -139,6 +140,7 @@ module _ (g : OpenFile → OpenFile) where
       by_object (A_directory listing) = refl
       by_object (A_file file) = refl
       by_object (A_pipe pipe) = refl
+      by_object (A_fixed fixed) = refl
       by_object (A_description opened) = refl
       by_object Nothing = refl
 
@@ -154,6 +156,7 @@ module _ (g : OpenFile → OpenFile) where
           → if_held t object ≡ Some (A_description opened)
       by_stage t (A_directory listing) is = is
       by_stage t (A_pipe pipe) is = is
+      by_stage t (A_fixed fixed) is = is
       by_stage t (A_description opened) is = is
       by_stage t Nothing is = is
       by_stage Coming (A_file file) is = is
@@ -188,5 +191,6 @@ module _ (g : OpenFile → OpenFile) where
           record { before = it; held = refl; is = file_is (g it) is; count = refl }
       by_stage Held (A_directory listing) is = absurd (true_is_false (ap is_file (sym is)))
       by_stage Held (A_pipe pipe) is = absurd (true_is_false (ap is_file (sym is)))
+      by_stage Held (A_fixed fixed) is = absurd (true_is_false (ap is_file (sym is)))
       by_stage Held (A_description opened) is = absurd (not_file opened file is)
       by_stage Held Nothing is = absurd (true_is_false (ap is_file (sym is)))

@@ -29,7 +29,7 @@ settled_if opening r = cond (is_new opening) (settled r) r
 
 reopened_none : (s : Numbers) → AreReopened [] s s
 reopened_none s = record {
-  same = record { root = refl; inodes = refl; staged = λ staged. staged };
+  same = record { root = refl; inodes = refl; rights = refl; staged = λ staged. staged };
   descriptions = λ d. refl;
   reserves = λ n. refl;
   counted = λ ps counted unheld ends. counted;
@@ -70,6 +70,7 @@ module _ (n : ℕ) (o : Opening) (rest : List (ℕ × Opening))
     same = record {
       root = later.same.root ∙ first.same.root;
       inodes = later.same.inodes ∙ first.same.inodes;
+      rights = later.same.rights ∙ first.same.rights;
       staged = λ staged. later.same.staged (first.same.staged staged);
     };
     descriptions = λ d. elim (cases_eq d n) [

@@ -14,7 +14,7 @@ use Rattle.store.specs.declared.Place.{Place}
 use Rattle.store.specs.declared.Stage.{Stage}
 use Rattle.store.specs.declared.Stage.TheVariants.{Coming, Held, Removed}
 use Rattle.store.specs.declared.Object.{Object}
-use Rattle.store.specs.declared.Object.TheVariants.{Directory as A_directory, File as A_file, Pipe as A_pipe, Description as A_description, Nothing}
+use Rattle.store.specs.declared.Object.TheVariants.{Directory as A_directory, File as A_file, Pipe as A_pipe, Fixed as A_fixed, Description as A_description, Nothing}
 use Rattle.store.proofs.Laws.{descriptions-opened, get-chosen, inodes-opened, left-altered, place-altered, place-other}
 use Rattle.shadow.specs.Stored.{FitsStage, IsStaged, reserve_in}
 use Rattle.shadow.specs.Laid.{AreHeld, IsOneLess, IsOneMore, WasHeld}
@@ -32,6 +32,7 @@ shown_file _ = None
 file_of_object : (o : Option Object) (file : OpenFile) → shown_file o ≡ Some file → o ≡ Some (A_file file)
 file_of_object (Some (A_file it)) file is = ap (λ (it : OpenFile). Some (A_file it)) (some_same it file is)
 file_of_object (Some (A_pipe pipe)) file is = absurd cc
+file_of_object (Some (A_fixed fixed)) file is = absurd cc
 file_of_object (Some (A_directory listing)) file is = absurd cc
 file_of_object (Some (A_description opened)) file is = absurd cc
 file_of_object (Some Nothing) file is = absurd cc
@@ -49,13 +50,14 @@ shown_count (Some place) opened is = by_stage place.stage place.object is
     by_stage Held (A_directory listing) is = absurd cc
     by_stage Held (A_file file) is = absurd cc
     by_stage Held (A_pipe pipe) is = absurd cc
+    by_stage Held (A_fixed fixed) is = absurd cc
     by_stage Held Nothing is = absurd cc
 
 module _ (R : ℕ → ℕ → ℕ → Type 0) where
   -- where the counts are as they should be already, nothing changes
   pub held_still : (s : Numbers) → ((d : ℕ) (opened : Opened) → object_at s d ≡ Some (A_description opened) → R d opened.holders opened.holders) → AreHeld R s s
   held_still s each = record {
-    same = record { root = refl; inodes = refl; staged = λ h n. h n };
+    same = record { root = refl; inodes = refl; rights = refl; staged = λ h n. h n };
     descriptions = refl;
     reserves = λ n. refl;
     files = λ n file is. is;
@@ -72,6 +74,7 @@ module _ (g : Opened → Opened) where
       by_stage t (A_directory listing) h = h
       by_stage t (A_file file) h = h
       by_stage t (A_pipe pipe) h = h
+      by_stage t (A_fixed fixed) h = h
       by_stage t Nothing h = h
       by_stage Coming (A_description opened) h = h
       by_stage Held (A_description opened) h = λ is. absurd cc
@@ -84,6 +87,7 @@ module _ (g : Opened → Opened) where
       by_object (A_directory listing) = refl
       by_object (A_file file) = refl
       by_object (A_pipe pipe) = refl
+      by_object (A_fixed fixed) = refl
       by_object (A_description opened) = refl
       by_object Nothing = refl
 
@@ -96,6 +100,7 @@ module _ (g : Opened → Opened) where
       by_stage Held (A_directory listing) = refl
       by_stage Held (A_file file) = refl
       by_stage Held (A_pipe pipe) = refl
+      by_stage Held (A_fixed fixed) = refl
       by_stage Held (A_description opened) = refl
       by_stage Held Nothing = refl
 
@@ -116,6 +121,7 @@ module _ (g : Opened → Opened) where
       by_stage Held (A_directory listing) is = absurd cc
       by_stage Held (A_file file) is = absurd cc
       by_stage Held (A_pipe pipe) is = absurd cc
+      by_stage Held (A_fixed fixed) is = absurd cc
       by_stage Held Nothing is = absurd cc
 
   module _ (same : (opened : Opened) → (g opened).description ≡ opened.description) (R : ℕ → ℕ → ℕ → Type 0) (s : Numbers) (d : ℕ)
@@ -144,7 +150,7 @@ module _ (g : Opened → Opened) where
 
     pub held_at : AreHeld R s after
     held_at = record {
-      same = record { root = refl; inodes = inodes-opened g s d; staged = staged_after };
+      same = record { root = refl; inodes = inodes-opened g s d; rights = refl; staged = staged_after };
       descriptions = descriptions-opened g same s d;
       reserves = λ n. get-chosen reserve_in after.places n ∙ left-altered (λ o. option_and_then reserve_in o) (with_opened g) reserve_opened s d n ∙ sym (get-chosen reserve_in s.places n);
       files = λ n file is. file_of_object (object_at s n) file (sym (left-altered (λ o. shown_file (held o)) (with_opened g) file_opened s d n) ∙ ap shown_file is);

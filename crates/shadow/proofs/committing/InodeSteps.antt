@@ -19,7 +19,7 @@ use Rattle.store.specs.declared.Object.TheVariants.{Directory as A_directory}
 use Rattle.store.proofs.Laws.{MayBeNamed, altered-alike, altered-same, left-altered, place-altered, place-other}
 use Rattle.shadow.specs.declared.change.InodeChange.{InodeChange}
 use Rattle.shadow.specs.declared.change.Contents.{Contents}
-use Rattle.shadow.specs.declared.change.Contents.TheVariants.{Same, Names, Bytes, Pipe as Piped}
+use Rattle.shadow.specs.declared.change.Contents.TheVariants.{Same, Names, Bytes, Pipe as Piped, Fixed as As_fixed}
 use Rattle.shadow.specs.Patches.{kept_at}
 use Rattle.shadow.specs.Laid.{AreReady, IsCarried, IsCarriedBy, IsReady, IsReadyContents, IsReadyDirectory, IsReadyFile, IsReadyPipe, named_by, shown_if}
 use Rattle.shadow.proofs.shared.SortedKeys.{first_absent, first_kept, later_kept, not_first, rest_sorted}
@@ -92,10 +92,11 @@ module _ (s t u : Numbers) (n : ℕ) (made : Bool) (notes : Notes) (promised : �
 -- what the changes make of the store
 pub record AreCarried (changes : List (ℕ × InodeChange)) (old new : Numbers) : Type 0 where
   pub root : new.root ≡ old.root
+  pub rights : new.rights ≡ old.rights
   pub places : (n : ℕ) → IsCarried (kept_at changes n) (get old.places n) (get new.places n)
 
 pub carried_none : (s : Numbers) → AreCarried [] s s
-carried_none s = record { root = refl; places = λ n. refl }
+carried_none s = record { root = refl; rights = refl; places = λ n. refl }
 
 -- what may be named may be named later
 carried_named : (c : InodeChange) (w : Contents) (before after : Option Place) → IsCarriedBy c w before after → may_be_named before ≡ true → may_be_named after ≡ true
@@ -108,6 +109,7 @@ carried_named c (Names fresh notes) before after is named = ap may_be_named is �
 carried_named c (Bytes fresh bytes) before after is named = ap may_be_named is.place
 carried_named c (Piped (Some new) changes) before after is named = ap may_be_named is
 carried_named c (Piped None changes) before after is named = ap may_be_named is.is
+carried_named c (As_fixed fixed) before after is named = ap may_be_named is
 
 -- the changes of the first inode are made
 module _ (n : ℕ) (c : InodeChange) (rest : List (ℕ × InodeChange)) (sorted : IsStrictlySortedBy nat_cmp (keys_of ((n, c) ∷ rest)))
@@ -115,9 +117,10 @@ module _ (n : ℕ) (c : InodeChange) (rest : List (ℕ × InodeChange)) (sorted 
   abbrev whole : List (ℕ × InodeChange)
   whole = (n, c) ∷ rest
 
-  pub carried_first : (u : Numbers) → t.root ≡ s.root → AreCarried rest t u → AreCarried whole s u
-  carried_first u root later = record {
+  pub carried_first : (u : Numbers) → t.root ≡ s.root → t.rights ≡ s.rights → AreCarried rest t u → AreCarried whole s u
+  carried_first u root rights later = record {
     root = later.root ∙ root;
+    rights = later.rights ∙ rights;
     places = λ m. elim (cases_eq m n) [
       | inl same ↦ subst (λ (m : ℕ). IsCarried (kept_at whole m) (get s.places m) (get u.places m)) (sym same) at_first
       | inr away ↦ subst (λ (o : Option InodeChange). IsCarried o (get s.places m) (get u.places m)) (sym (later_kept n c rest m away))
@@ -156,6 +159,7 @@ module _ (n : ℕ) (c : InodeChange) (rest : List (ℕ × InodeChange)) (sorted 
       }
       by_contents (Bytes fresh bytes) h = subst (λ (o : Option Place). IsReadyFile (is_some d.made) o) (sym (others m away)) h
       by_contents (Piped fresh changes) h = subst (IsReadyPipe fresh changes) (sym (others m away)) h
+      by_contents (As_fixed fixed) h = others m away ∙ h
 
 pub first_ready : (n : ℕ) (c : InodeChange) (rest : List (ℕ × InodeChange)) (s : Numbers) → AreReady ((n, c) ∷ rest) s → IsReady s n c
 first_ready n c rest s ready = ready n c (first_kept n c rest)
@@ -170,10 +174,10 @@ pub carries_nothing : (start : Numbers) (all : List (ℕ × InodeChange)) → Ar
 carries_nothing start all ready sorted = record { ready = ready; ends = λ t h. h; sorted = sorted }
 
 pub carries_on : (start now : Numbers) (all : List (ℕ × InodeChange)) (n : ℕ) (c : InodeChange) (rest : List (ℕ × InodeChange)) → Carries start now all ((n, c) ∷ rest) → (after : Numbers)
-    → after.root ≡ now.root → IsCarried (Some c) (get now.places n) (get after.places n) → ((m : ℕ) → m ≢ n → get after.places m ≡ get now.places m) → Carries start after all rest
-carries_on start now all n c rest carries after root here others = record {
+    → after.root ≡ now.root → after.rights ≡ now.rights → IsCarried (Some c) (get now.places n) (get after.places n) → ((m : ℕ) → m ≢ n → get after.places m ≡ get now.places m) → Carries start after all rest
+carries_on start now all n c rest carries after root rights here others = record {
   ready = ready_later n c rest carries.sorted now after here others carries.ready;
-  ends = λ t h. carries.ends t (carried_first n c rest carries.sorted now after here others t root h);
+  ends = λ t h. carries.ends t (carried_first n c rest carries.sorted now after here others t root rights h);
   sorted = rest_sorted n c rest carries.sorted;
 }
 

@@ -16,14 +16,14 @@ use Rattle.store.specs.declared.Object.TheVariants.{Pipe as Kept_pipe, Nothing}
 use Rattle.store.proofs.Laws.{get-descriptions, get-inodes}
 use Rattle.shadow.specs.declared.change.InodeChange.{InodeChange}
 use Rattle.shadow.specs.declared.change.Contents.{Contents}
-use Rattle.shadow.specs.declared.change.Contents.TheVariants.{Same, Names, Bytes, Pipe as Piped}
+use Rattle.shadow.specs.declared.change.Contents.TheVariants.{Same, Names, Bytes, Pipe as Piped, Fixed as As_fixed}
 use Rattle.shadow.specs.declared.change.Made.{Made}
 use Rattle.shadow.specs.Agrees.{IsOver}
 use Rattle.shadow.specs.Claims.{Claim, New_directory, Number, Room, claim_in, claimed, inodes_claim, number_of, reserved}
 use Rattle.shadow.specs.Laid.{AreReady, IsCarried, IsCarriedBy, IsReadyContents, kept_in}
 use Rattle.shadow.specs.Patches.{Patches, form_of, is_new, kept_at, net_at, net_of, opening_at, patched}
 use Rattle.shadow.specs.Stored.{AreCounted, Processes, committed_of, state_of}
-use Rattle.shadow.proofs.committing.PlaceAfterChanges.{Becomes, bytes_become, claim_of, inode_seen, names_become, pipe_become, pipe_comes, stays_as_it_is}
+use Rattle.shadow.proofs.committing.PlaceAfterChanges.{Becomes, bytes_become, claim_of, fixed_comes, inode_seen, names_become, pipe_become, pipe_comes, stays_as_it_is}
 use Rattle.shadow.proofs.committing.CommitStates.{AreCarried, CanCommit, HasInodes}
 use Rattle.shadow.proofs.shared.SoundnessLemmas.{Counts, counted_by, counts_of, counts_of_state, reserved_is}
 use Rattle.shadow.proofs.freeing.RemainingPlaces.{kept_by, kept_is}
@@ -86,6 +86,9 @@ module _ {ps : Processes} {s after : Numbers} {ds : List Effect} {p : Patches} (
       by_contents (Piped (Some new) changes) same h carried =
           pipe_comes n c.promised (get s.places n) (get after.places n) (can.sound.staged n) c.made new changes
           (subst (λ w. IsOver (mapped kind (inode_seen (get s.places n))) c.made (form_of w)) same over) covers h.0 carried
+      by_contents (As_fixed fixed) same h carried =
+          fixed_comes n c.promised (get s.places n) (get after.places n) (can.sound.staged n) c.made fixed
+          (subst (λ w. IsOver (mapped kind (inode_seen (get s.places n))) c.made (form_of w)) same over) covers h carried
 
   becomes_at : (n : ℕ) → Becomes_at n (kept_at p.inodes n)
   becomes_at n = by_change n (kept_at p.inodes n) refl (are.places n)
@@ -93,6 +96,9 @@ module _ {ps : Processes} {s after : Numbers} {ds : List Effect} {p : Patches} (
   inodes_after : inodes after ≡ (all_done ds k).inodes
   inodes_after = same_map nat_cmp_total nat_cmp-IsAntisymmetric (inodes after) (all_done ds k).inodes (λ n.
       get-inodes after n ∙ (becomes_at n).inode ∙ ap (patched (net_at p.inodes n).contents) (sym (get-inodes s n)) ∙ sym (can.agrees.inodes k n can.fits))
+
+  rights_after : after.rights ≡ (all_done ds k).rights
+  rights_after = same_map nat_cmp_total nat_cmp-IsAntisymmetric after.rights (all_done ds k).rights (λ n. are.rights n ∙ sym (can.agrees.rights k n))
 
   descriptions_after : descriptions after ≡ descriptions s
   descriptions_after = same_map nat_cmp_total nat_cmp-IsAntisymmetric (descriptions after) (descriptions s) (λ n.
@@ -145,6 +151,7 @@ module _ {ps : Processes} {s after : Numbers} {ds : List Effect} {p : Patches} (
   has_inodes new = record {
     root = are.root;
     inodes = inodes_after;
+    rights = rights_after;
     descriptions = descriptions_after;
     staged = λ n. (becomes_at n).staged;
     counted = counted_after;

@@ -15,7 +15,7 @@ use Rattle.store.specs.declared.Place.{Place}
 use Rattle.store.specs.declared.Stage.{Stage}
 use Rattle.store.specs.declared.Stage.TheVariants.{Coming, Held, Removed}
 use Rattle.store.specs.declared.Object.{Object}
-use Rattle.store.specs.declared.Object.TheVariants.{Directory as A_directory, File as A_file, Pipe as A_pipe}
+use Rattle.store.specs.declared.Object.TheVariants.{Directory as A_directory, File as A_file, Pipe as A_pipe, Fixed as A_fixed}
 use Rattle.store.specs.declared.Object.TheVariants.{Description as A_description, Nothing}
 use Rattle.store.proofs.Laws.{descriptions-moved, inodes-opened, left-altered, place-other}
 use Rattle.shadow.specs.Stored.{AreCounted, Processes, reserve_in, state_of, stored}
@@ -38,6 +38,7 @@ module _ (f : Opened → Opened) where
       by_object (A_directory listing) = refl
       by_object (A_file file) = refl
       by_object (A_pipe pipe) = refl
+      by_object (A_fixed fixed) = refl
       by_object (A_description opened) = refl
       by_object Nothing = refl
 
@@ -53,6 +54,7 @@ module _ (f : Opened → Opened) where
       by_stage Held (A_directory listing) = refl
       by_stage Held (A_file file) = refl
       by_stage Held (A_pipe pipe) = refl
+      by_stage Held (A_fixed fixed) = refl
       by_stage Held (A_description opened) = refl
       by_stage Held Nothing = refl
 
@@ -69,6 +71,7 @@ module _ (f : Opened → Opened) where
       by_stage Held (A_directory listing) = refl
       by_stage Held (A_file file) = refl
       by_stage Held (A_pipe pipe) = refl
+      by_stage Held (A_fixed fixed) = refl
       by_stage Held (A_description opened) = ap (λ (c : ℕ). Some c) (same opened)
       by_stage Held Nothing = refl
 
@@ -94,12 +97,12 @@ pub offset_state : (ps : Processes) (s : Numbers) (d place : ℕ)
     → state_of ps (altered (with_opened (moved_to place)) s d)
     ≡ set_offset d place (get (descriptions s) d) (state_of ps s)
 offset_state ps s d place =
-    ap (λ m. stored ps m (descriptions (altered (with_opened (moved_to place)) s d)))
+    ap (λ m. stored ps m s.rights (descriptions (altered (with_opened (moved_to place)) s d)))
     (inodes-opened (moved_to place) s d)
-    ∙ ap (stored ps (inodes s)) (descriptions-moved place s d) ∙ by_old (get (descriptions s) d)
+    ∙ ap (stored ps (inodes s) s.rights) (descriptions-moved place s d) ∙ by_old (get (descriptions s) d)
   where
     by_old : (o : Option Description)
-        → stored ps (inodes s) (with_offset_by place o (descriptions s) d)
+        → stored ps (inodes s) s.rights (with_offset_by place o (descriptions s) d)
         ≡ set_offset d place o (state_of ps s)
     by_old (Some it) = refl
     by_old None = refl
@@ -138,6 +141,7 @@ opening_moved s d place t is = subst (IsReopened d (Moved place) s) (sym is) (re
   same = record {
     root = refl;
     inodes = inodes-opened (moved_to place) s d;
+    rights = refl;
     staged = opened_staged (moved_to place) s d;
   };
   here = ap (λ m. get m d) (descriptions-moved place s d) ∙ offset_here place (descriptions s) d;

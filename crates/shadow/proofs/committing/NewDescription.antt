@@ -17,7 +17,7 @@ use Rattle.store.specs.declared.Opened.{Opened}
 use Rattle.store.specs.declared.OpenPipe.{OpenPipe}
 use Rattle.store.specs.declared.Place.{Place}
 use Rattle.store.specs.declared.Object.{Object}
-use Rattle.store.specs.declared.Object.TheVariants.{Directory as A_directory, File as A_file, Pipe as A_pipe}
+use Rattle.store.specs.declared.Object.TheVariants.{Directory as A_directory, File as A_file, Pipe as A_pipe, Fixed as A_fixed}
 use Rattle.store.specs.declared.Object.TheVariants.{Description as A_description, Nothing}
 use Rattle.store.proofs.Laws.{descriptions-filed, descriptions-set, get-descriptions_by}
 use Rattle.store.proofs.Laws.{get-inodes_by, inodes-filed, inodes-set, place-altered, place-other}
@@ -46,6 +46,7 @@ not_counted place = by_object place.object
     by_object (A_directory listing) = refl
     by_object (A_file file) = refl
     by_object (A_pipe pipe) = refl
+    by_object (A_fixed fixed) = refl
     by_object (A_description opened) = refl
     by_object Nothing = refl
 
@@ -155,8 +156,9 @@ module _ (s : Numbers) (d : ℕ) (it : Description) (b : Bool) (t : Numbers)
     k = state_of ps s
 
     state_is : state_of ps t ≡ set_description d it k
-    state_is = ap (λ m. stored ps m (descriptions t)) same_inodes
-        ∙ ap (stored ps (inodes s)) one_more
+    state_is = ap (λ m. stored ps m t.rights (descriptions t)) same_inodes
+        ∙ ap (λ r. stored ps (inodes s) r (descriptions t)) (ap (λ (t : Numbers). t.rights) is)
+        ∙ ap (stored ps (inodes s) s.rights) one_more
 
     comes : (n : ℕ) → openings (state_of ps t) n ≡ openings k n + cond (i == n) 1 0
     comes n = ap (λ (k : Kernel). openings k n) state_is
@@ -236,6 +238,7 @@ module _ (s : Numbers) (d : ℕ) (it : Description) (b : Bool) (t : Numbers)
     same = record {
       root = ap (λ (t : Numbers). t.root) is;
       inodes = same_inodes;
+      rights = ap (λ (t : Numbers). t.rights) is;
       staged = still_staged;
     };
     here = ap (λ m. get m d) one_more ∙ get_same (descriptions s) d it;

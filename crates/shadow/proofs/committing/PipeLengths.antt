@@ -3,8 +3,8 @@ use Rattle.std.proofs.Common.{◌≡◌, ℕ, ◌-◌, ◌+◌, ◌≤◌, List,
 use Rattle.std.proofs.lemmas.Bool.{cases_eq}
 use Rattle.model.specs.FiniteMap.{empty, get}
 use Rattle.model.specs.Limits.{capacity}
-use Rattle.model.specs.State.{Directory, File, Inode, Kernel, Pipe, pipe_of, pipe_of_inode}
-use Rattle.model.specs.Changes.{Edit, Made, Make_directory, Make_file, Name_file, Unname_file, Unname_directory, Move, Put_bytes, Cut, Take, Append, Set_offset, Open_inode, Make_pipe, Share_slot, Clear_slot, New_process, End_process, all_applied, applied, clear_name, number, set_inode}
+use Rattle.model.specs.State.{Directory, File, Fixed, Inode, Kernel, Pipe, pipe_of, pipe_of_inode}
+use Rattle.model.specs.Changes.{Edit, Made, Make_directory, Make_file, Make_fixed, Name_file, Unname_file, Unname_directory, Move, Put_bytes, Cut, Take, Append, Set_offset, Set_rights, Open_inode, Make_pipe, Share_slot, Clear_slot, New_process, End_process, all_applied, applied, clear_name, number, set_inode}
 use Rattle.model.specs.Effects.{Effect, all_done}
 use Rattle.model.proofs.Laws.{get_same, get_other}
 use Rattle.call_laws.specs.Fits.{Fits, FitsAll}
@@ -29,6 +29,7 @@ module _ (p : ℕ) where
   unfolding applied
   one chosen k (Make_directory d x i) f short = set_short (set_inode (number chosen (Made i)) (Directory empty) k) d _ (none d) (set_short k (number chosen (Made i)) (Directory empty) (none (number chosen (Made i))) short)
   one chosen k (Make_file d x i) f short = set_short (set_inode (number chosen (Made i)) (File []) k) d _ (none d) (set_short k (number chosen (Made i)) (File []) (none (number chosen (Made i))) short)
+  one chosen k (Make_fixed d x fixed i) f short = set_short (set_inode (number chosen (Made i)) (Fixed fixed) k) d _ (none d) (set_short k (number chosen (Made i)) (Fixed fixed) (none (number chosen (Made i))) short)
   one chosen k (Name_file d x n) f short = set_short k d _ (none d) short
   one chosen k (Unname_file d x n) f short = set_short k d _ (none d) short
   one chosen k (Unname_directory d x n) f short = set_short k d _ (none d) short
@@ -42,6 +43,7 @@ module _ (p : ℕ) where
       let more : length (pipe_of k q ++ bytes) ≡ length (pipe_of k q) + length bytes = length-append (pipe_of k q) bytes in
       let low : length (pipe_of k q) + length bytes ≤ capacity = f.1 in omega arith) short
   one chosen k (Set_offset d place) f short = subst (λ (k : Kernel). length (pipe_of k p) ≤ capacity) (sym (set_there k d place f.0 f.1)) short
+  one chosen k (Set_rights n rights) f short = short
   one chosen k (Open_inode i inode how q s) can short = short
   one chosen k (Make_pipe i q f g) can short = set_short k (number chosen (Made i)) (Pipe []) (none (number chosen (Made i))) short
   one chosen k (Share_slot q f d pipes) can short = short

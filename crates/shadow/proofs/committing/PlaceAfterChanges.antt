@@ -3,7 +3,7 @@ use Rattle.std.proofs.Common.{◌≡◌, ◌⊎◌, ℕ, ◌+◌, ◌-◌, ◌�
 use Rattle.std.specs.Option.{option_and_then, option_map}
 use Rattle.std.specs.Cmp.Lexicographic.{nat_list_cmp_total}
 use Rattle.model.specs.FiniteMap.{empty, entries, get-empty, same_map}
-use Rattle.model.specs.State.{Description, Directory, File, Inode, kind, mapped}
+use Rattle.model.specs.State.{Description, Directory, File, Fixed_content, Inode, kind, mapped}
 use Rattle.model.proofs.Laws.{name_exact}
 use Rattle.call_laws.proofs.Laws.{some_same, true_is_false}
 use Rattle.dirlist.specs.Listing.{Listing}
@@ -18,15 +18,15 @@ use Rattle.store.specs.Shown.{description_of, inode_of}
 use Rattle.store.specs.declared.OpenFile.{OpenFile}
 use Rattle.store.specs.declared.OpenPipe.{OpenPipe}
 use Rattle.store.specs.declared.Place.{Place}
-use Rattle.store.specs.declared.Object.TheVariants.{Directory as Kept_directory, File as Kept_file, Pipe as Kept_pipe, Nothing}
+use Rattle.store.specs.declared.Object.TheVariants.{Directory as Kept_directory, File as Kept_file, Pipe as Kept_pipe, Fixed as Kept_fixed, Nothing}
 use Rattle.shadow.specs.declared.change.Contents.{Contents}
-use Rattle.shadow.specs.declared.change.Contents.TheVariants.{Same, Names, Bytes, Pipe as Piped}
+use Rattle.shadow.specs.declared.change.Contents.TheVariants.{Same, Names, Bytes, Pipe as Piped, Fixed as As_fixed}
 use Rattle.shadow.specs.declared.change.Made.{Made}
-use Rattle.shadow.specs.declared.change.Made.TheVariants.{Directory as New_one, File as New_file, Pipe as New_pipe}
+use Rattle.shadow.specs.declared.change.Made.TheVariants.{Directory as New_one, File as New_file, Pipe as New_pipe, Fixed as New_fixed}
 use Rattle.shadow.specs.Agrees.{IsOver}
 use Rattle.shadow.specs.Claims.{Claim, New_directory, Number, Room, as_count, is_directory_made, is_file_made, number_of}
 use Rattle.shadow.specs.Laid.{IsPassedOver, IsReadyFile, IsWrittenOver, bytes_in, named_by, shown_if}
-use Rattle.shadow.specs.Patches.{new_ends, of_bytes, of_names, of_pipe, patched}
+use Rattle.shadow.specs.Patches.{new_ends, of_bytes, of_fixed, of_names, of_pipe, patched}
 use Rattle.shadow.specs.Stored.{IsStaged}
 use Rattle.shadow.proofs.shared.SoundnessLemmas.{holders_seen, openings_seen}
 use Rattle.shadow.proofs.freeing.RemainingPlaces.{kept_by}
@@ -188,6 +188,23 @@ module _ (changes : PipeChanges) (pipe : OpenPipe) where
       kept (New_directory m) = refl
       kept (Number m) = refl
 
+-- what never changes is to come, and is shown
+new_fixed : (fixed : Fixed_content) → Becomes (As_fixed fixed) (Some New_fixed) 0 (Some (coming Nothing)) (Some (present (Kept_fixed fixed)))
+new_fixed fixed = record {
+  inode = refl;
+  description = refl;
+  staged = λ e. cc;
+  openings = λ count none all c is. absurd (none_some c is);
+  holders = λ c is. absurd (none_some c is);
+  pipes = λ ends is. absurd (none_some ends is);
+  kept = kept;
+}
+  where
+    kept : (c : Claim) → kept_by c (Some (present (Kept_fixed fixed))) + claim_of (Some New_fixed) 0 c ≡ kept_by c (Some (coming Nothing))
+    kept (Room r) = refl
+    kept (New_directory m) = refl
+    kept (Number m) = refl
+
 -- what is there already is shown as it is
 shown_before : (o : Option Place) (place : Place) → option_map (shown_if false) o ≡ Some place → o ≡ Some place
 shown_before (Some p) place is = is
@@ -200,6 +217,7 @@ module _ (n promised : ℕ) (before after : Option Place) (staged : IsStaged bef
       → Becomes (Names fresh notes) made promised before after
   names_become (Some New_file) fresh notes over covers listing there room is = absurd cc
   names_become (Some New_pipe) fresh notes over covers listing there room is = absurd cc
+  names_become (Some New_fixed) fresh notes over covers listing there room is = absurd cc
   names_become None fresh notes over covers listing there room is =
       let was : before ≡ Some (present (Kept_directory listing)) = shown_before before (present (Kept_directory listing)) there in
       subst (λ b. Becomes (Names b notes) None promised before after) (sym over.0)
@@ -235,6 +253,7 @@ module _ (n promised : ℕ) (before after : Option Place) (staged : IsStaged bef
       → IsReadyFile (is_some made) before → IsWrittenOver bytes before after → Becomes (Bytes fresh bytes) made promised before after
   bytes_become (Some New_one) fresh bytes over covers ready is = absurd cc
   bytes_become (Some New_pipe) fresh bytes over covers ready is = absurd cc
+  bytes_become (Some New_fixed) fresh bytes over covers ready is = absurd cc
   bytes_become None fresh bytes over covers ready is =
       subst (λ b. Becomes (Bytes b bytes) None promised before after) (sym over.0)
       (subst (λ m. Becomes (Bytes false bytes) None m before after) (sym none)
@@ -273,6 +292,7 @@ module _ (n promised : ℕ) (before after : Option Place) (staged : IsStaged bef
   pipe_become (Some New_one) changes over covers is = absurd cc
   pipe_become (Some New_file) changes over covers is = absurd cc
   pipe_become (Some New_pipe) changes over covers is = absurd cc
+  pipe_become (Some New_fixed) changes over covers is = absurd cc
   pipe_become None changes over covers is =
       subst (λ m. Becomes (Piped None changes) None m before after) (sym none)
       (subst (λ (o : Option Place). Becomes (Piped None changes) None 0 before o) (sym is.is)
@@ -288,6 +308,7 @@ module _ (n promised : ℕ) (before after : Option Place) (staged : IsStaged bef
       → before ≡ Some (coming Nothing) → after ≡ Some (present (Kept_pipe (record new { bytes = pipe_over changes new.bytes }))) → Becomes (Piped (Some new) changes) made promised before after
   pipe_comes (Some New_one) new changes over covers was is = absurd cc
   pipe_comes (Some New_file) new changes over covers was is = absurd cc
+  pipe_comes (Some New_fixed) new changes over covers was is = absurd cc
   pipe_comes None new changes over covers was is = absurd (true_is_false over.0)
   pipe_comes (Some New_pipe) new changes over covers was is =
       subst (λ m. Becomes (Piped (Some new) changes) (Some New_pipe) m before after) (sym none)
@@ -297,4 +318,21 @@ module _ (n promised : ℕ) (before after : Option Place) (staged : IsStaged bef
       none : promised ≡ 0
       none = (
           let most : claim_of (Some New_pipe) promised (Room n) ≤ kept_by (Room n) before = covers (Room n) refl in
+          let zero : kept_by (Room n) before ≡ 0 = ap (kept_by (Room n)) was in omega arith)
+
+  -- and what never changes
+  pub fixed_comes : (made : Option Made) (fixed : Fixed_content) → IsOver (mapped kind (inode_seen before)) made of_fixed → ((c : Claim) → number_of c ≡ n → claim_of made promised c ≤ kept_by c before)
+      → before ≡ Some (coming Nothing) → after ≡ Some (present (Kept_fixed fixed)) → Becomes (As_fixed fixed) made promised before after
+  fixed_comes (Some New_one) fixed over covers was is = absurd cc
+  fixed_comes (Some New_file) fixed over covers was is = absurd cc
+  fixed_comes (Some New_pipe) fixed over covers was is = absurd cc
+  fixed_comes None fixed over covers was is = absurd over
+  fixed_comes (Some New_fixed) fixed over covers was is =
+      subst (λ m. Becomes (As_fixed fixed) (Some New_fixed) m before after) (sym none)
+      (subst (λ (o : Option Place). Becomes (As_fixed fixed) (Some New_fixed) 0 before o) (sym is)
+      (subst (λ (o : Option Place). Becomes (As_fixed fixed) (Some New_fixed) 0 o (Some (present (Kept_fixed fixed)))) (sym was) (new_fixed fixed)))
+    where
+      none : promised ≡ 0
+      none = (
+          let most : claim_of (Some New_fixed) promised (Room n) ≤ kept_by (Room n) before = covers (Room n) refl in
           let zero : kept_by (Room n) before ≡ 0 = ap (kept_by (Room n)) was in omega arith)

@@ -5,7 +5,7 @@ use Rattle.std.proofs.Common.{Option, Some, None, is_some, IfSome, refl, sym, ap
 use Rattle.std.specs.List.{AllByRecursion}
 use Rattle.std.specs.Option.{option_and_then, option_map}
 use Rattle.model.specs.FiniteMap.{entries, get}
-use Rattle.model.specs.State.{A_directory, A_file, A_pipe, pipe_of_inode, Inode, Kernel, Kind, Name, Process}
+use Rattle.model.specs.State.{A_directory, A_file, A_pipe, Fixed_content, pipe_of_inode, Inode, Kernel, Kind, Name, Process}
 use Rattle.model.specs.State.{file_of_inode, kind, mapped, names_of, names_of_inode}
 use Rattle.model.specs.Effects.{Effect, all_done}
 use Rattle.model.proofs.Laws.{all_entries}
@@ -29,7 +29,7 @@ use Rattle.store.specs.declared.Stage.{Stage}
 use Rattle.store.specs.declared.Stage.TheVariants.{Coming, Held, Removed}
 use Rattle.store.specs.declared.Object.{Object}
 use Rattle.store.specs.declared.Object.TheVariants.{Directory as Kept_directory}
-use Rattle.store.specs.declared.Object.TheVariants.{File as Kept_file, Pipe as Kept_pipe}
+use Rattle.store.specs.declared.Object.TheVariants.{File as Kept_file, Pipe as Kept_pipe, Fixed as Kept_fixed}
 use Rattle.store.specs.declared.Object.TheVariants.{Description as Kept_description, Nothing}
 use Rattle.store.proofs.Laws.{get-chosen, get-inodes_by, laid_is}
 use Rattle.shadow.specs.Agrees.{Agrees, IsOver}
@@ -40,17 +40,19 @@ use Rattle.shadow.specs.Committed.{Committed, Reserve}
 use Rattle.shadow.specs.Laid.{AreReady, IsCarried, IsCarriedBy, IsReadyContents}
 use Rattle.shadow.specs.Laid.{IsReadyDirectory, IsReadyFile, IsReadyPipe, reserves_of, shown_if}
 use Rattle.shadow.specs.Patches.{Net, Patches, added_by, form_of, is_new, kept_at}
-use Rattle.shadow.specs.Patches.{names_before, net_at, net_of, no_change, of_bytes, of_names, of_pipe}
+use Rattle.shadow.specs.Patches.{names_before, net_at, net_of, no_change, of_bytes, of_fixed, of_names}
+use Rattle.shadow.specs.Patches.{of_pipe}
 use Rattle.shadow.specs.Patches.{opening_at, patched, pipe_before, slots_in}
 use Rattle.shadow.specs.Stored.{IsStaged, Processes, Sound, committed_of, numbered, reserve_in}
 use Rattle.shadow.specs.Stored.{state_of}
 use Rattle.shadow.specs.declared.change.InodeChange.{InodeChange}
 use Rattle.shadow.specs.declared.change.Contents.{Contents}
-use Rattle.shadow.specs.declared.change.Contents.TheVariants.{Same, Names, Bytes, Pipe as Piped}
+use Rattle.shadow.specs.declared.change.Contents.TheVariants.{Same, Names, Bytes, Pipe as Piped, Fixed as As_fixed}
 use Rattle.shadow.specs.declared.change.Made.{Made}
-use Rattle.shadow.specs.declared.change.Made.TheVariants.{Directory, File as New_file, Pipe as New_pipe}
+use Rattle.shadow.specs.declared.change.Made.TheVariants.{Directory, File as New_file, Pipe as New_pipe, Fixed as New_fixed}
 use Rattle.shadow.proofs.committing.CommitStates.{CanCommit}
 use Rattle.shadow.proofs.committing.PipeLengths.{stays_short}
+use Rattle.shadow.proofs.shared.FixedKinds.{no_directory, no_file, no_pipe}
 
 -- the inode that a place shows, its kind, its bytes, and what is kept of it for transactions
 abbrev pub inode_seen : Option Place → Option Inode
@@ -84,6 +86,7 @@ directory_shown (Some place) is = by_place place.stage place.object is
     by_place Held (Kept_directory listing) is = (listing, refl)
     by_place Held (Kept_file file) is = absurd cc
     by_place Held (Kept_pipe pipe) is = absurd cc
+    by_place Held (Kept_fixed fixed) is = no_directory fixed is
     by_place Held (Kept_description opened) is = absurd cc
     by_place Held Nothing is = absurd cc
     by_place Coming object is = absurd cc
@@ -101,6 +104,7 @@ file_shown (Some place) is = by_place place.stage place.object is
         → IsShownFile (Some (of_stage t object))
     by_place Held (Kept_file file) is = (file, refl)
     by_place Held (Kept_pipe pipe) is = absurd cc
+    by_place Held (Kept_fixed fixed) is = no_file fixed is
     by_place Held (Kept_directory listing) is = absurd cc
     by_place Held (Kept_description opened) is = absurd cc
     by_place Held Nothing is = absurd cc
@@ -118,6 +122,7 @@ pipe_shown (Some place) is = by_place place.stage place.object is
     by_place : (t : Stage) (object : Object) → kind_at t object ≡ Some A_pipe
         → IsShownPipe (Some (of_stage t object))
     by_place Held (Kept_pipe pipe) is = (pipe, refl)
+    by_place Held (Kept_fixed fixed) is = no_pipe fixed is
     by_place Held (Kept_directory listing) is = absurd cc
     by_place Held (Kept_file file) is = absurd cc
     by_place Held (Kept_description opened) is = absurd cc
@@ -143,6 +148,7 @@ directory_comes (Some place) some = by_place place.stage place.object some
     by_place Coming (Kept_directory listing) some = (listing, refl)
     by_place Coming (Kept_file file) some = none_less some
     by_place Coming (Kept_pipe pipe) some = none_less some
+    by_place Coming (Kept_fixed fixed) some = none_less some
     by_place Coming (Kept_description opened) some = none_less some
     by_place Coming Nothing some = none_less some
     by_place Held object some = none_less some
@@ -161,6 +167,7 @@ other_comes (Some place) staged some = by_place place.stage place.object staged 
     by_place Coming (Kept_directory listing) staged some = none_less some
     by_place Coming (Kept_file file) staged some = absurd staged
     by_place Coming (Kept_pipe pipe) staged some = absurd staged
+    by_place Coming (Kept_fixed fixed) staged some = absurd staged
     by_place Coming (Kept_description opened) staged some = absurd staged
     by_place Held object staged some = none_less some
     by_place Removed object staged some = none_less some
@@ -194,12 +201,15 @@ named_place o (Some New_file) contents under can =
     ap may_be_named (other_comes o under.staged under.file)
 named_place o (Some New_pipe) contents under can =
     ap may_be_named (other_comes o under.staged under.file)
+named_place o (Some New_fixed) contents under can =
+    ap may_be_named (other_comes o under.staged under.file)
 named_place o None Same under can = shown_named o can
 named_place o None (Names fresh notes) under can =
     ap may_be_named (directory_shown o under.over.1).1
 named_place o None (Bytes fresh bytes) under can = ap may_be_named (file_shown o under.over.1).1
 named_place o None (Piped fresh changes) under can =
     ap may_be_named (pipe_shown o under.over.1).1
+named_place o None (As_fixed fixed) under can = absurd under.over
 
 -- a directory of which names change is shown, or is to come
 record IsListed (o : Option Place) (made : Option Made) : Type 0 where
@@ -220,6 +230,8 @@ listed o (Some New_file) fresh notes under =
     let file : of_names fresh ≡ of_bytes true = under.over in absurd cc
 listed o (Some New_pipe) fresh notes under =
     let pipe : of_names fresh ≡ of_pipe true = under.over in absurd cc
+listed o (Some New_fixed) fresh notes under =
+    let fixed : of_names fresh ≡ of_fixed = under.over in absurd cc
 listed o None fresh notes under =
     let is : IsShownDirectory o = directory_shown o under.over.1 in
     record {
@@ -235,6 +247,8 @@ file_ready o (Some Directory) fresh bytes under =
     let directory : of_bytes fresh ≡ of_names true = under.over in absurd cc
 file_ready o (Some New_pipe) fresh bytes under =
     let pipe : of_bytes fresh ≡ of_pipe true = under.over in absurd cc
+file_ready o (Some New_fixed) fresh bytes under =
+    let fixed : of_bytes fresh ≡ of_fixed = under.over in absurd cc
 file_ready o (Some New_file) fresh bytes under = other_comes o under.staged under.file
 file_ready o None fresh bytes under = file_shown o under.over.1
 
@@ -248,6 +262,8 @@ pipe_ready o (Some Directory) fresh changes under short =
     let directory : of_pipe (is_some fresh) ≡ of_names true = under.over in absurd cc
 pipe_ready o (Some New_file) fresh changes under short =
     let file : of_pipe (is_some fresh) ≡ of_bytes true = under.over in absurd cc
+pipe_ready o (Some New_fixed) fresh changes under short =
+    let fixed : of_pipe (is_some fresh) ≡ of_fixed = under.over in absurd cc
 pipe_ready o (Some New_pipe) None changes under short =
     let old : of_pipe false ≡ of_pipe true = under.over in absurd cc
 pipe_ready o (Some New_pipe) (Some new) changes under short =
@@ -264,6 +280,18 @@ pipe_ready o None None changes under short =
           → length (pipe_over changes (pipe_of_inode (inode_seen o))) ≤ PIPE_CAPACITY) is.1 short,
     )
 
+-- what never changes is new, so its number is to come
+fixed_ready : (o : Option Place) (made : Option Made) (fixed : Fixed_content)
+    → IsUnder o made (As_fixed fixed) → o ≡ Some (coming Nothing)
+fixed_ready o (Some Directory) fixed under =
+    let directory : of_fixed ≡ of_names true = under.over in absurd cc
+fixed_ready o (Some New_file) fixed under =
+    let file : of_fixed ≡ of_bytes true = under.over in absurd cc
+fixed_ready o (Some New_pipe) fixed under =
+    let pipe : of_fixed ≡ of_pipe true = under.over in absurd cc
+fixed_ready o (Some New_fixed) fixed under = other_comes o under.staged under.file
+fixed_ready o None fixed under = absurd under.over
+
 -- where nothing is settled yet and the transaction makes no file, it changes no inode
 nothing_there : (o : Option Place) (made : Option Made) (contents : Contents)
     → o ≡ Some (coming Nothing) → IsUnder o made contents → as_count (is_file_made made) ≡ 0
@@ -277,6 +305,8 @@ nothing_there o (Some New_file) contents is under none =
     let one : as_count true ≡ 0 = none in absurd (omega arith)
 nothing_there o (Some New_pipe) contents is under none =
     let one : as_count true ≡ 0 = none in absurd (omega arith)
+nothing_there o (Some New_fixed) contents is under none =
+    let one : as_count true ≡ 0 = none in absurd (omega arith)
 nothing_there o None Same is under none = (refl, refl)
 nothing_there o None (Names fresh notes) is under none =
     let shown : None ≡ Some A_directory = sym (ap kind_seen is) ∙ under.over.1 in absurd cc
@@ -284,6 +314,7 @@ nothing_there o None (Bytes fresh bytes) is under none =
     let shown : None ≡ Some A_file = sym (ap kind_seen is) ∙ under.over.1 in absurd cc
 nothing_there o None (Piped fresh changes) is under none =
     let shown : None ≡ Some A_pipe = sym (ap kind_seen is) ∙ under.over.1 in absurd cc
+nothing_there o None (As_fixed fixed) is under none = absurd under.over
 
 -- nothing was made where nothing changes
 unmade : (o : Option Place) (made : Option Made) → IsUnder o made Same → made ≡ None
@@ -292,6 +323,7 @@ unmade o (Some Directory) under =
     let directory : no_change ≡ of_names true = under.over in absurd cc
 unmade o (Some New_file) under = let file : no_change ≡ of_bytes true = under.over in absurd cc
 unmade o (Some New_pipe) under = let pipe : no_change ≡ of_pipe true = under.over in absurd cc
+unmade o (Some New_fixed) under = let fixed : no_change ≡ of_fixed = under.over in absurd cc
 
 -- what is known of the changes of one inode
 record Fits (ps : Processes) (s : Numbers) (ds : List Effect) (n : ℕ) (net : Net) : Type 0 where
@@ -436,6 +468,8 @@ module _ {ps : Processes} {s : Numbers} {ds : List Effect} {p : Patches}
   change_ready n c fits (Piped fresh changes) is under =
       pipe_ready (get s.places n) c.made fresh changes under
       (short_at n c fresh changes fits is)
+  change_ready n c fits (As_fixed fixed) is under =
+      fixed_ready (get s.places n) c.made fixed under
 
   -- each change of an inode can be made
   pub ready : AreReady p.inodes s

@@ -121,6 +121,7 @@ pub same_store_same : (s t u : Numbers) → SameStore s t → SameStore t u → 
 same_store_same s t u first later = record {
   root = later.root ∙ first.root;
   inodes = later.inodes ∙ first.inodes;
+  rights = later.rights ∙ first.rights;
   staged = λ h. later.staged (first.staged h);
 }
 

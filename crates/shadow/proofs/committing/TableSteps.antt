@@ -24,7 +24,7 @@ use Rattle.shadow.proofs.committing.SlotSteps.{same_store_same}
 -- one after the other, what stays stays
 pub stays_still : (ps : Processes) (s : Numbers) → SlotsStay ps ps s s
 stays_still ps s = record {
-  same = record { root = refl; inodes = refl; staged = λ h. h };
+  same = record { root = refl; inodes = refl; rights = refl; staged = λ h. h };
   descriptions = refl;
   reserves = λ n. refl;
   count = refl;

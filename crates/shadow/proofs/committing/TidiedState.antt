@@ -15,7 +15,7 @@ use Rattle.call_laws.specs.WellFormed.{WellFormed}
 use Rattle.call_laws.proofs.Laws.{calls_are_lawful_lem, not_none, some_same, true_is_false}
 use Rattle.freeing_laws.specs.Counts.{times}
 use Rattle.freeing_laws.specs.Left.{AreLeft, HasSlot}
-use Rattle.freeing_laws.specs.Sweep.{AreParented, all_closed, free_inodes}
+use Rattle.freeing_laws.specs.Sweep.{AreParented, AreSet, all_closed, free_inodes}
 use Rattle.freeing_laws.proofs.Laws.{sweep_is_tidy_lem}
 use Rattle.freeing_laws.proofs.Left.{left_is_tidy_lem}
 use Rattle.store.specs.Numbers.{Numbers}
@@ -138,6 +138,7 @@ module _ (ps qs : Processes) (s after last : Numbers) (ds : List Effect) (p : Pa
   pub are_left : AreLeft closing p.unnamed_inodes done
   are_left = record {
     parents = subst AreParented all.state all.holds.parented;
+    rights = subst AreSet all.state all.holds.set;
     descriptions = description_left;
     inodes = inode_left;
   }

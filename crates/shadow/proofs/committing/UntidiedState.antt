@@ -6,7 +6,7 @@ use Rattle.std.specs.Option.{option_and_then}
 use Rattle.std.specs.Cmp.{nat_cmp_total}
 use Rattle.fdtable.specs.Patches.{Given}
 use Rattle.model.specs.FiniteMap.{get, nat_cmp-IsAntisymmetric, same_map}
-use Rattle.model.specs.State.{A_directory, Description, Kernel, Name, is_end, kind, kind_of}
+use Rattle.model.specs.State.{Description, Kernel, Kind, Name, is_end, kind, kind_of}
 use Rattle.model.specs.State.{mapped, names_of}
 use Rattle.model.specs.Changes.{holders, openings}
 use Rattle.model.specs.Effects.{Effect, all_done}
@@ -21,7 +21,7 @@ use Rattle.store.specs.declared.Stage.{Stage}
 use Rattle.store.specs.declared.Stage.TheVariants.{Coming, Held, Removed}
 use Rattle.store.specs.declared.Object.{Object}
 use Rattle.store.specs.declared.Object.TheVariants.{Directory as Kept_directory}
-use Rattle.store.specs.declared.Object.TheVariants.{File as Kept_file, Pipe as Kept_pipe}
+use Rattle.store.specs.declared.Object.TheVariants.{File as Kept_file, Pipe as Kept_pipe, Fixed as Kept_fixed}
 use Rattle.store.specs.declared.Object.TheVariants.{Description as Kept_description, Nothing}
 use Rattle.store.proofs.Laws.{get-chosen, get-descriptions_by, get-inodes_by}
 use Rattle.shadow.specs.Claims.{Claim, Room, New_directory, Number, as_count, claim_in, claimed}
@@ -63,6 +63,7 @@ no_inode (Some place) there = by_stage place.stage place.object there
     by_stage Held (Kept_directory listing) there = absurd (there refl)
     by_stage Held (Kept_file file) there = absurd (there refl)
     by_stage Held (Kept_pipe pipe) there = absurd (there refl)
+    by_stage Held (Kept_fixed fixed) there = absurd (there refl)
     by_stage Held (Kept_description opened) there = refl
     by_stage Held Nothing there = refl
 
@@ -94,24 +95,25 @@ unheld_new {ps} {s} {ds} {p} can d new =
         ∙ comes_unopened (get s.places d) d claims_one
 
 -- states with the same parts
-same_kernel : (k l : Kernel) → k.root ≡ l.root → k.inodes ≡ l.inodes
+same_kernel : (k l : Kernel) → k.root ≡ l.root → k.inodes ≡ l.inodes → k.rights ≡ l.rights
     → k.descriptions ≡ l.descriptions → k.processes ≡ l.processes → k.made ≡ l.made
     → k.largest ≡ l.largest → k ≡ l
-same_kernel k l root inodes descriptions processes made largest = λ i. record {
+same_kernel k l root inodes rights descriptions processes made largest = λ i. record {
   root = root i;
   inodes = inodes i;
+  rights = rights i;
   descriptions = descriptions i;
   processes = processes i;
   made = made i;
   largest = largest i;
 }
 
--- a description is of no directory, so none opens one
-not_opened : (k : Kernel) → WellFormed k → (n : ℕ) → kind_of k n ≡ Some A_directory
-    → openings k n ≡ 0
-not_opened k well n is =
+-- a description is of what can be opened, so none opens anything else
+not_opened : (k : Kernel) → WellFormed k → (n : ℕ) (what : Kind) → kind_of k n ≡ Some what
+    → (CanBeOpened (Some what) → ⊥) → openings k n ≡ 0
+not_opened k well n what is never =
     openings_change_lem.unopened k n (λ d it there same.
-    subst CanBeOpened (ap (kind_of k) same ∙ is) (well.descriptions d it there))
+    never (subst CanBeOpened (ap (kind_of k) same ∙ is) (well.descriptions d it there)))
 
 -- what a name gives is an inode, and so no description
 not_named : (ps : Processes) (s : Numbers) → WellFormed (state_of ps s) → (d n : ℕ) (x : Name)
@@ -208,6 +210,7 @@ module _ {ps qs : Processes} {s mid after last : Numbers} {ds : List Effect} {p 
       same_kernel (state_of qs last) (all_done ds (state_of ps s))
       (sym (can.agrees.root (state_of ps s)))
       (slotted.stay.same.inodes ∙ opened.same.inodes ∙ made.inodes)
+      (slotted.stay.same.rights ∙ opened.same.rights ∙ made.rights)
       (same_map nat_cmp_total nat_cmp-IsAntisymmetric _ _ description)
       (same_map nat_cmp_total nat_cmp-IsAntisymmetric _ _ process)
       (slotted.stay.count ∙ sym (can.agrees.count (state_of ps s)))
@@ -246,6 +249,7 @@ module _ {ps qs : Processes} {s mid after last : Numbers} {ds : List Effect} {p 
   holds = record {
     root = slotted.stay.same.root ∙ opened.same.root ∙ made.root ∙ can.sound.root;
     parented = sweep_is_tidy_lem.parented (state_of qs last) well;
+    set = sweep_is_tidy_lem.set (state_of qs last) well;
     unnamed = not_named qs last well;
     unopened = not_opened (state_of qs last) well;
     staged = slotted.stay.same.staged (opened.same.staged made.staged);

@@ -60,10 +60,10 @@ module _ (ps : Processes) (counted : Kernel) (s : Numbers) (d : ℕ) (f : Listin
   pub relisted_state : (g : FinMap name_cmp ℕ → FinMap name_cmp ℕ) → ((l : Listing) → (f l).names ≡ g l.names)
       → state_of ps relisted ≡ set_inode d (Directory (g (names_of (state_of ps s) d))) (state_of ps s)
   relisted_state g by =
-      ap (λ m. stored ps m (descriptions relisted))
+      ap (λ m. stored ps m s.rights (descriptions relisted))
       (ap inodes relisted_is ∙ inodes-set s d after
       ∙ ap (λ ns. insert (inodes s) d (Directory ns)) (by parent.0 ∙ ap g (sym names_are)))
-      ∙ ap (stored ps (insert (inodes s) d (Directory (g (names_of (state_of ps s) d))))) (descriptions-changed f s d)
+      ∙ ap (stored ps (insert (inodes s) d (Directory (g (names_of (state_of ps s) d)))) s.rights) (descriptions-changed f s d)
 
   pub relisted_stands : Stands ps counted relisted
   relisted_stands = record {

@@ -119,11 +119,13 @@ module _ (ps qs : Processes) (s t : Numbers) (pid : ℕ) (pipes : List ℕ) (sou
   left_state : (said : List ℕ) → state_of left t ≡ applied [] (End_process pid said) k
   unfolding applied
   left_state said =
-      ap (λ m. stored left m (descriptions t)) laid.stay.same.inodes
-      ∙ ap (stored left (inodes s)) laid.stay.descriptions
+      ap (λ m. stored left m t.rights (descriptions t)) laid.stay.same.inodes
+      ∙ ap (λ r. stored left (inodes s) r (descriptions t)) laid.stay.same.rights
+      ∙ ap (stored left (inodes s) s.rights) laid.stay.descriptions
       ∙ (λ i. record {
         root = 0;
         inodes = inodes s;
+        rights = s.rights;
         descriptions = descriptions s;
         processes = left_processes i;
         made = left_count i;
@@ -175,6 +177,8 @@ module _ (ps qs : Processes) (s t : Numbers) (pid : ℕ) (pipes : List ℕ) (sou
   are_left : AreLeft (given_of former) [] ended
   are_left = record {
     parents = sweep_is_tidy_lem.parented ended
+        (well_stays [] k (End_process pid pipes) sound.well fits);
+    rights = sweep_is_tidy_lem.set ended
         (well_stays [] k (End_process pid pipes) sound.well fits);
     descriptions = description_left;
     inodes = inode_left;

@@ -3,7 +3,7 @@ use Rattle.std.proofs.Common.{◌≡◌, ℕ, List, [], length, Option, Some, No
 use Rattle.std.specs.Prelude.{IsSome}
 use Rattle.std.specs.Option.{option_and_then, option_map}
 use Rattle.model.specs.FiniteMap.{get, insert}
-use Rattle.model.specs.State.{A_file, Inode, Kernel, Directory, File, Pipe, kind, kind_of, mapped, file_of, file_of_inode}
+use Rattle.model.specs.State.{A_file, Inode, Kernel, Directory, File, Fixed, Pipe, kind, kind_of, mapped, file_of, file_of_inode}
 use Rattle.model.specs.Changes.{Put_bytes, Cut, applied, sized, written, set_inode, tidy}
 use Rattle.model.proofs.Laws.{get_same}
 use Rattle.call_laws.specs.Fits.{Fits}
@@ -17,12 +17,13 @@ use Rattle.store.specs.declared.Place.{Place}
 use Rattle.store.specs.declared.Stage.{Stage}
 use Rattle.store.specs.declared.Stage.TheVariants.{Coming, Held, Removed}
 use Rattle.store.specs.declared.Object.{Object}
-use Rattle.store.specs.declared.Object.TheVariants.{Directory as Kept_directory, File as Kept_file, Pipe as Kept_pipe, Description as Kept_description, Nothing}
+use Rattle.store.specs.declared.Object.TheVariants.{Directory as Kept_directory, File as Kept_file, Pipe as Kept_pipe, Fixed as Kept_fixed, Description as Kept_description, Nothing}
 use Rattle.store.proofs.Laws.{altered-alike, altered-twice, descriptions-filed, get-inodes, inodes-swapped, insert-held, left-altered}
 use Rattle.shadow.specs.Stored.{AreCounted, Processes, Sound, state_of, stored}
 use Rattle.shadow.proofs.freeing.RemainingPlaces.{file_staged}
 use Rattle.shadow.proofs.shared.PipePairLemmas.{ends_left, pipe_by_file, same_pairs}
 use Rattle.shadow.proofs.shared.SoundnessLemmas.{Counts, counted_by, counts_of, counts_of_state, counts_stay, holders_seen, openings_seen, sound_after, tidy_after}
+use Rattle.shadow.proofs.shared.FixedKinds.{no_file}
 
 -- what is a file in the state is one in the store
 pub file_there : (s : Numbers) (n : ℕ) → mapped kind (get (inodes s) n) ≡ Some A_file → IsSome (option_and_then stored_file (object_at s n))
@@ -33,6 +34,7 @@ file_there s n is = by_object (object_at s n) (sym (ap (mapped kind) (get-inodes
     by_object (Some (Kept_directory l)) is = absurd cc
     by_object (Some (Kept_file file)) is = refl
     by_object (Some (Kept_pipe pipe)) is = absurd cc
+    by_object (Some (Kept_fixed fixed)) is = no_file fixed is
     by_object (Some (Kept_description opened)) is = absurd cc
     by_object (Some Nothing) is = absurd cc
 
@@ -42,6 +44,7 @@ file_is None is = absurd cc
 file_is (Some (Directory names)) is = absurd cc
 file_is (Some (File bytes)) is = refl
 file_is (Some (Pipe bytes)) is = absurd cc
+file_is (Some (Fixed fixed)) is = no_file fixed is
 
 -- after the first swap it is one still
 pub file_still : (s t : Numbers) (n : ℕ) (bytes : List ℕ) → inodes t ≡ insert (inodes s) n (File bytes) → IsSome (option_and_then stored_file (object_at t n))
@@ -59,6 +62,7 @@ former_is s n content there former = get-inodes s n ∙ by_place (get s.places n
     by_stage Held (Kept_directory l) there former = absurd cc
     by_stage Held (Kept_file file) there former = ap (mapped (λ (b : FileContent). File b.bytes)) former
     by_stage Held (Kept_pipe pipe) there former = absurd cc
+    by_stage Held (Kept_fixed fixed) there former = absurd cc
     by_stage Held (Kept_description opened) there former = absurd cc
     by_stage Held Nothing there former = absurd cc
 
@@ -81,6 +85,7 @@ swapped_twice a b s t u n one two =
     by_object (Kept_directory l) = refl
     by_object (Kept_file file) = refl
     by_object (Kept_pipe pipe) = refl
+    by_object (Kept_fixed fixed) = refl
     by_object (Kept_description opened) = refl
     by_object Nothing = refl
 
@@ -93,7 +98,7 @@ module _ (ps : Processes) (s : Numbers) (n : ℕ) (b : FileContent) (sound : Sou
 
   -- the state with other bytes
   pub swapped_state : state_of ps (swapped b s n) ≡ set_inode n (File b.bytes) k
-  swapped_state = ap (λ m. stored ps m (descriptions (swapped b s n))) (inodes-swapped b s n there) ∙ ap (stored ps (insert (inodes s) n (File b.bytes))) (descriptions-filed (with_bytes b) s n)
+  swapped_state = ap (λ m. stored ps m s.rights (descriptions (swapped b s n))) (inodes-swapped b s n there) ∙ ap (stored ps (insert (inodes s) n (File b.bytes)) s.rights) (descriptions-filed (with_bytes b) s n)
 
   pub swapped_counted : AreCounted ps (swapped b s n)
   swapped_counted = counted_by ps (swapped b s n) (subst (λ (l : Kernel). Counts l (swapped b s n)) (sym swapped_state)
@@ -107,6 +112,7 @@ module _ (ps : Processes) (s : Numbers) (n : ℕ) (b : FileContent) (sound : Sou
       files Held (Kept_directory l) = refl
       files Held (Kept_file file) = refl
       files Held (Kept_pipe pipe) = refl
+      files Held (Kept_fixed fixed) = refl
       files Held (Kept_description opened) = refl
       files Held Nothing = refl
 
@@ -116,12 +122,13 @@ module _ (ps : Processes) (s : Numbers) (n : ℕ) (b : FileContent) (sound : Sou
       held_by Held (Kept_directory l) = refl
       held_by Held (Kept_file file) = refl
       held_by Held (Kept_pipe pipe) = refl
+      held_by Held (Kept_fixed fixed) = refl
       held_by Held (Kept_description opened) = refl
       held_by Held Nothing = refl
 
   -- the same bytes
   pub unswapped_state : get (inodes s) n ≡ Some (File b.bytes) → state_of ps (swapped b s n) ≡ k
-  unswapped_state same = swapped_state ∙ ap (λ m. stored ps m (descriptions s)) (insert-held (inodes s) n (File b.bytes) same)
+  unswapped_state same = swapped_state ∙ ap (λ m. stored ps m s.rights (descriptions s)) (insert-held (inodes s) n (File b.bytes) same)
 
   pub unswapped_sound : get (inodes s) n ≡ Some (File b.bytes) → Sound ps (swapped b s n)
   unswapped_sound same = record {

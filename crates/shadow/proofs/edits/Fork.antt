@@ -173,11 +173,13 @@ module _ (ps qs : Processes) (s t : Numbers) (parent : ℕ) (pipes : List ℕ) (
       → state_of qs t ≡ applied [] (New_process (suc (length ps.list)) parent said) k
   unfolding applied
   forked said =
-      ap (λ m. stored qs m (descriptions t)) laid.stay.same.inodes
-      ∙ ap (stored qs (inodes s)) laid.stay.descriptions
+      ap (λ m. stored qs m t.rights (descriptions t)) laid.stay.same.inodes
+      ∙ ap (λ r. stored qs (inodes s) r (descriptions t)) laid.stay.same.rights
+      ∙ ap (stored qs (inodes s) s.rights) laid.stay.descriptions
       ∙ (λ i. record {
         root = 0;
         inodes = inodes s;
+        rights = s.rights;
         descriptions = descriptions s;
         processes = processes_now i;
         made = count_now i;

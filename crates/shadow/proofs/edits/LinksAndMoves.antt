@@ -1,9 +1,10 @@
--- A name more for a file, and a name that moves, in the store.
-use Rattle.std.proofs.Common.{◌≡◌, ℕ, ◌+◌, ◌<◌, ◌≤◌, ◌==◌, true, false, cond, [], ◌∷◌, Some, refl, sym, ap, subst, ◌∙◌, arith, eq-eqb}
+-- A name more for what may have several, and a name that moves, in the store.
+use Rattle.std.proofs.Common.{◌≡◌, ℕ, ◌+◌, ◌<◌, ◌≤◌, ◌==◌, true, false, cond, [], ◌∷◌, Option, Some, None, refl, sym, ap, subst, ◌∙◌, arith, eq-eqb}
 use Rattle.model.specs.FiniteMap.{get, remove}
-use Rattle.model.specs.State.{A_directory, A_file, Kernel, Name, kind_of, names_of}
+use Rattle.model.specs.State.{A_directory, Kernel, Kind, Name, kind_of, names_of}
 use Rattle.model.specs.Changes.{Edit, Move, Name_file, Replaced, applied, clear_name, inode_replaced, set_name, tidy}
 use Rattle.call_laws.specs.Fits.{Fits}
+use Rattle.call_laws.specs.WellFormed.{CanBeLinked}
 use Rattle.call_laws.proofs.Laws.{has_names}
 use Rattle.freeing_laws.specs.Sweep.{free_inodes}
 use Rattle.freeing_laws.proofs.Laws.{sweep_is_tidy_lem}
@@ -60,7 +61,11 @@ module _ (ps : Processes) (s : Numbers) (d : ℕ) (x : Name) (n : ℕ) (sound : 
   }
 
   pub linking_num : may_be_named (get s.places n) ≡ true
-  linking_num = shown_named s n A_file fits.1
+  linking_num = by_kind (kind_of (state_of ps s) n) refl fits.1
+    where
+      by_kind : (o : Option Kind) → kind_of (state_of ps s) n ≡ o → CanBeLinked o → may_be_named (get s.places n) ≡ true
+      by_kind (Some what) is can = shown_named s n what is
+      by_kind None is can = absurd can
 
   module _ (some_room : 0 < kept_in s (Room d)) where
     pub linking_room : (l : Listing) → listing_at s d ≡ Some l → 0 < l.promised

@@ -4,8 +4,8 @@ use Rattle.std.specs.Option.{option_and_then}
 use Rattle.std.specs.Cmp.Lexicographic.{nat_list_cmp_total}
 use Rattle.std.proofs.lemmas.Bool.{cases_eq}
 use Rattle.model.specs.FiniteMap.{empty, get, get-empty, insert, same_map}
-use Rattle.model.specs.State.{A_directory, Kernel, Inode, File, Directory, Name, kind, kind_of, mapped, names_of, names_of_inode}
-use Rattle.model.specs.Changes.{Edit, Make_directory, Make_file, applied, holders, openings, set_inode, set_name, tidy}
+use Rattle.model.specs.State.{A_directory, Kernel, Inode, File, Directory, Fixed, Fixed_content, Name, kind, kind_of, mapped, names_of, names_of_inode}
+use Rattle.model.specs.Changes.{Edit, Make_directory, Make_file, Make_fixed, applied, holders, openings, set_inode, set_name, tidy}
 use Rattle.model.proofs.Laws.{get_same, get_other, name_exact}
 use Rattle.call_laws.specs.WellFormed.{CanBeOpened}
 use Rattle.call_laws.specs.Fits.{Fits, IsFree}
@@ -23,7 +23,7 @@ use Rattle.store.specs.declared.Place.{Place}
 use Rattle.store.specs.declared.Stage.{Stage}
 use Rattle.store.specs.declared.Stage.TheVariants.{Coming, Held, Removed}
 use Rattle.store.specs.declared.Object.{Object}
-use Rattle.store.specs.declared.Object.TheVariants.{Directory as Kept_directory, File as Kept_file, Pipe as Kept_pipe, Description as Kept_description, Nothing}
+use Rattle.store.specs.declared.Object.TheVariants.{Directory as Kept_directory, File as Kept_file, Pipe as Kept_pipe, Fixed as Kept_fixed, Description as Kept_description, Nothing}
 use Rattle.store.proofs.Laws.{altered-some, descriptions-set, get-inodes, inodes-set, remove-absent, with_place}
 use Rattle.shadow.specs.Claims.{Claim, New_directory, Number, Room, as_count, claimed_by_one, number_as, number_of, reserved, room_in}
 use Rattle.shadow.specs.Committed.{Committed}
@@ -32,6 +32,7 @@ use Rattle.shadow.specs.Stored.{AreCounted, IsStaged, Processes, Sound, committe
 use Rattle.shadow.proofs.freeing.RemainingPlaces.{kept_by, kept_is}
 use Rattle.shadow.proofs.shared.PipePairLemmas.{ends_seen, same_pairs}
 use Rattle.shadow.proofs.shared.SoundnessLemmas.{Counts, counted_by, counts_of, counts_of_state, holders_seen, kept_of, openings_seen, sound_after, tidy_after}
+use Rattle.shadow.proofs.shared.FixedKinds.{no_directory}
 
 -- one place that changes
 module _ (s : Numbers) (n : ℕ) (p : Place) where
@@ -98,7 +99,7 @@ and_false : (b : Bool) → as_count (b && false) ≡ 0
 and_false true = refl
 and_false false = refl
 
--- what is claimed for a new directory and for a new file with its name
+-- what is claimed for a new directory, for a new file and for what never changes, with its name
 directory_claims : (d n : ℕ) (x : Name) (c : Claim) → claimed_by_one c (n ∷ []) (Make_directory d x 0) ≡ number_as true n c + room_in d c
 directory_claims d n x (Room r) = refl
 directory_claims d n x (New_directory m) = (let one : claimed_by_one (New_directory m) (n ∷ []) (Make_directory d x 0) ≡ 0 + cond (n == m) 1 0 = refl in let same : number_as true n (New_directory m) ≡ cond (n == m) 1 0 = and_true (n == m) in let none : room_in d (New_directory m) ≡ 0 = refl in omega arith)
@@ -118,6 +119,7 @@ directory_to_come (Some place) n h = by_stage place.stage place.object h
     by_stage Coming (Kept_directory l) h = (l, refl)
     by_stage Coming (Kept_file file) h = absurd (omega arith)
     by_stage Coming (Kept_pipe pipe) h = absurd (omega arith)
+    by_stage Coming (Kept_fixed fixed) h = absurd (omega arith)
     by_stage Coming (Kept_description opened) h = absurd (omega arith)
     by_stage Coming Nothing h = absurd (omega arith)
     by_stage Held object h = absurd (omega arith)
@@ -131,6 +133,7 @@ other_to_come (Some place) n fits h = by_stage place.stage place.object fits h
     by_stage Coming (Kept_directory l) fits h = absurd (omega arith)
     by_stage Coming (Kept_file file) fits h = absurd fits
     by_stage Coming (Kept_pipe pipe) fits h = absurd fits
+    by_stage Coming (Kept_fixed fixed) fits h = absurd fits
     by_stage Coming (Kept_description opened) fits h = absurd fits
     by_stage Coming Nothing fits h = refl
     by_stage Held object fits h = absurd (omega arith)
@@ -144,6 +147,7 @@ held_directory s d is = by_place (get s.places d) (sym (ap (mapped kind) (get-in
     by_stage Held (Kept_directory l) is = (l, refl)
     by_stage Held (Kept_file file) is = absurd cc
     by_stage Held (Kept_pipe pipe) is = absurd cc
+    by_stage Held (Kept_fixed fixed) is = no_directory fixed is
     by_stage Held (Kept_description opened) is = absurd cc
     by_stage Held Nothing is = absurd cc
     by_stage Coming object is = absurd cc
@@ -219,8 +223,8 @@ module _ (ps : Processes) (s : Numbers) (d : ℕ) (x : Name) (n : ℕ) (was obje
 
   made_state : state_of ps made ≡ applied (n ∷ []) e k
   made_state =
-      ap (λ m. stored ps m (descriptions made)) (inodes-set first d after ∙ ap (λ m. insert m d (Directory (insert l.names x n))) inodes_first ∙ ap (λ ns. insert (insert (inodes s) n new) d (Directory (insert ns x n))) (sym names_are))
-      ∙ ap (stored ps (set_name d x n (set_inode n new k)).inodes) (descriptions-set first d after ∙ remove-absent (descriptions first) d (not_described) ∙ descriptions_first)
+      ap (λ m. stored ps m s.rights (descriptions made)) (inodes-set first d after ∙ ap (λ m. insert m d (Directory (insert l.names x n))) inodes_first ∙ ap (λ ns. insert (insert (inodes s) n new) d (Directory (insert ns x n))) (sym names_are))
+      ∙ ap (stored ps (set_name d x n (set_inode n new k)).inodes s.rights) (descriptions-set first d after ∙ remove-absent (descriptions first) d (not_described) ∙ descriptions_first)
       ∙ sym makes
     where
       not_described : get (descriptions first) d ≡ None
@@ -269,6 +273,11 @@ module _ (ps : Processes) (s : Numbers) (d : ℕ) (x : Name) (n : ℕ) (was obje
     kept = λ c. ap (λ t. kept_in t c + claimed_by_one c (n ∷ []) e) made_is ∙ made_kept c;
   }
 
+fixed_claims : (fixed : Fixed_content) (d n : ℕ) (x : Name) (c : Claim) → claimed_by_one c (n ∷ []) (Make_fixed d x fixed 0) ≡ number_as false n c + room_in d c
+fixed_claims fixed d n x (Room r) = refl
+fixed_claims fixed d n x (Number m) = (let one : claimed_by_one (Number m) (n ∷ []) (Make_fixed d x fixed 0) ≡ 0 + cond (n == m) 1 0 = refl in let same : number_as false n (Number m) ≡ cond (n == m) 1 0 = and_true (n == m) in let none : room_in d (Number m) ≡ 0 = refl in omega arith)
+fixed_claims fixed d n x (New_directory m) = (let none : number_as false n (New_directory m) ≡ 0 = and_false (n == m) in let zero : claimed_by_one (New_directory m) (n ∷ []) (Make_fixed d x fixed 0) ≡ 0 = refl in let room : room_in d (New_directory m) ≡ 0 = refl in omega arith)
+
 -- what is claimed is there
 pub covered : (ps : Processes) (s : Numbers) (v : Committed) → committed_of ps s ≡ v → (c : Claim) (some : ℕ) → some ≤ reserved v c → 0 < some → 0 < kept_in s c
 covered ps s v is c some covers one = (let same : kept_in s c ≡ reserved v c = kept_of ps ps s v is c in omega (arith, covers, one))
@@ -281,6 +290,10 @@ module _ (ps : Processes) (s : Numbers) (v : Committed) (is : committed_of ps s 
   file_makes : applied (n ∷ []) (Make_file d x 0) (state_of ps s) ≡ set_name d x n (set_inode n (File []) (state_of ps s))
   unfolding applied
   file_makes = refl
+
+  fixed_makes : (fixed : Fixed_content) → applied (n ∷ []) (Make_fixed d x fixed 0) (state_of ps s) ≡ set_name d x n (set_inode n (Fixed fixed) (state_of ps s))
+  unfolding applied
+  fixed_makes fixed = refl
 
   pub makes_directory : Fits (n ∷ []) v.state (Make_directory d x 0) → ((c : Claim) → claimed_by_one c (n ∷ []) (Make_directory d x 0) ≤ reserved v c) → Makes ps s (altered installed s n) d x n (Make_directory d x 0)
   makes_directory fit covers = subst (λ t. Makes ps s t d x n (Make_directory d x 0)) (sym (altered-some installed s n (coming (Kept_directory there.0)) there.1))
@@ -333,3 +346,28 @@ module _ (ps : Processes) (s : Numbers) (v : Committed) (is : committed_of ps s 
       some_room =
           let one : claimed_by_one (Room d) (n ∷ []) (Make_file d x 0) ≡ 1 = ap (λ b. 0 + cond b 1 0) (eq-eqb d d refl) in
           covered ps s v is (Room d) (claimed_by_one (Room d) (n ∷ []) (Make_file d x 0)) (covers (Room d)) (omega arith)
+
+  pub fixed_to_come : (fixed : Fixed_content) → ((c : Claim) → claimed_by_one c (n ∷ []) (Make_fixed d x fixed 0) ≤ reserved v c) → get s.places n ≡ Some (coming Nothing)
+  fixed_to_come fixed covers = other_to_come (get s.places n) n (sound.staged n) (
+      let one : claimed_by_one (Number n) (n ∷ []) (Make_fixed d x fixed 0) ≡ 1 = ap (λ b. 0 + cond b 1 0) (eq-eqb n n refl) in
+      let some : 0 < kept_in s (Number n) = covered ps s v is (Number n) (claimed_by_one (Number n) (n ∷ []) (Make_fixed d x fixed 0)) (covers (Number n)) (omega arith) in
+      let same : kept_in s (Number n) ≡ kept_by (Number n) (get s.places n) = kept_is s (Number n) in omega arith)
+
+  pub makes_fixed : (fixed : Fixed_content) → Fits (n ∷ []) v.state (Make_fixed d x fixed 0) → ((c : Claim) → claimed_by_one c (n ∷ []) (Make_fixed d x fixed 0) ≤ reserved v c)
+      → Makes ps s (with_place s n (present (Kept_fixed fixed))) d x n (Make_fixed d x fixed 0)
+  makes_fixed fixed fit covers =
+      making_it ps s d x n Nothing (Kept_fixed fixed) (Fixed fixed) false (Make_fixed d x fixed 0) sound fits.0 fits.1 fits refl (fixed_to_come fixed covers)
+      refl refl (λ e. cc) (λ c e. cc) refl refl numbers (fixed_claims fixed d n x) some_room (fixed_makes fixed)
+    where
+      fits : Fits (n ∷ []) (state_of ps s) (Make_fixed d x fixed 0)
+      fits = subst (λ (v : Committed). Fits (n ∷ []) v.state (Make_fixed d x fixed 0)) (sym is) fit
+
+      numbers : (c : Claim) → number_of c ≡ n → kept_by c (Some (present (Kept_fixed fixed))) + number_as false n c ≡ kept_by c (Some (coming Nothing))
+      numbers (Room r) same = refl
+      numbers (New_directory m) same = ap (λ t. 0 + t) (number_here false n m same)
+      numbers (Number m) same = ap (λ t. 0 + t) (number_here true n m same)
+
+      some_room : 0 < kept_in s (Room d)
+      some_room =
+          let one : claimed_by_one (Room d) (n ∷ []) (Make_fixed d x fixed 0) ≡ 1 = ap (λ b. 0 + cond b 1 0) (eq-eqb d d refl) in
+          covered ps s v is (Room d) (claimed_by_one (Room d) (n ∷ []) (Make_fixed d x fixed 0)) (covers (Room d)) (omega arith)

@@ -165,7 +165,7 @@ module _ (ps : Processes) (s : Numbers) (v : Committed) (is : committed_of ps s 
     descriptions_first = described_so ∙ remove-absent (descriptions s) p can.pipe.description
 
     state_first : state_of ps first ≡ set_inode p (Pipe []) (state_of ps s)
-    state_first = ap (λ m. stored ps m (descriptions first)) inodes_first ∙ ap (stored ps (insert (inodes s) p (Pipe []))) descriptions_first
+    state_first = ap (λ m. stored ps m first.rights (descriptions first)) inodes_first ∙ ap (λ r. stored ps (insert (inodes s) p (Pipe [])) r (descriptions first)) (ap (λ (t : Numbers). t.rights) installed) ∙ ap (stored ps (insert (inodes s) p (Pipe [])) s.rights) descriptions_first
 
     not_pipe : {X : Type 0} (object : Object) → object_at first p ≡ Some object → (A_pipe pipe ≡ object → X) → X
     not_pipe object shows so = so (some_same (A_pipe pipe) object (sym (ap held here) ∙ shows))
@@ -233,7 +233,7 @@ module _ (ps : Processes) (s : Numbers) (v : Committed) (is : committed_of ps s 
       ])
 
       state_described : (n : ℕ) (it : Description) (x y : Numbers) → IsReopened n (New it) x y → state_of ps y ≡ set_description n it (state_of ps x)
-      state_described n it x y made = ap (λ m. stored ps m (descriptions y)) made.same.inodes ∙ ap (stored ps (inodes x)) (described n it x y made)
+      state_described n it x y made = ap (λ m. stored ps m y.rights (descriptions y)) made.same.inodes ∙ ap (λ r. stored ps (inodes x) r (descriptions y)) made.same.rights ∙ ap (stored ps (inodes x) x.rights) (described n it x y made)
 
       counted_opened : AreCounted ps t
       counted_opened = opened.counted ps counted_first (λ new. openings_change_lem.by_processes (state_of ps s) (state_of ps first) refl r ∙ unheld_reader) (λ it new. subst (IsEndHere first r) (new_is (at_start p to_read) it new) reader_end)

@@ -90,8 +90,9 @@ module _ (ps : Processes) (s : Numbers) (v : Committed) (is : committed_of ps s 
         ])
 
     described : state_of ps t ≡ set_description n (at_start inode mode) (state_of ps s)
-    described = ap (λ m. stored ps m (descriptions t)) opened.same.inodes
-        ∙ ap (stored ps (inodes s)) descriptions_are
+    described = ap (λ m. stored ps m t.rights (descriptions t)) opened.same.inodes
+        ∙ ap (λ r. stored ps (inodes s) r (descriptions t)) opened.same.rights
+        ∙ ap (stored ps (inodes s) s.rights) descriptions_are
 
     opens : applied (n ∷ []) (Open_inode 0 (There inode) mode pid f) (state_of ps s)
         ≡ open_at n inode mode pid f (state_of ps s)

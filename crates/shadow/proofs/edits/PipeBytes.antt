@@ -16,7 +16,7 @@ use Rattle.store.specs.declared.OpenPipe.{OpenPipe}
 use Rattle.store.specs.declared.Stage.{Stage}
 use Rattle.store.specs.declared.Stage.TheVariants.{Coming, Held, Removed}
 use Rattle.store.specs.declared.Object.{Object}
-use Rattle.store.specs.declared.Object.TheVariants.{Directory as Kept_directory, File as Kept_file, Pipe as Kept_pipe, Description as Kept_description, Nothing}
+use Rattle.store.specs.declared.Object.TheVariants.{Directory as Kept_directory, File as Kept_file, Pipe as Kept_pipe, Fixed as Kept_fixed, Description as Kept_description, Nothing}
 use Rattle.store.proofs.Laws.{get-inodes, left-altered}
 use Rattle.shadow.specs.Claims.{Claim, KeepsSame, New_directory, Number, Room}
 use Rattle.shadow.specs.Committed.{Committed}
@@ -25,6 +25,7 @@ use Rattle.shadow.specs.Stored.{AreCounted, FitsStage, IsStaged, Processes, Soun
 use Rattle.shadow.proofs.shared.SoundnessLemmas.{Counts, counted_by, counts_of, counts_of_state, counts_stay, holders_seen, openings_seen, same_of, sound_after, state_is, tidy_after}
 use Rattle.shadow.proofs.freeing.RemainingPlaces.{altered_staged, kept_alike, kept_by}
 use Rattle.shadow.proofs.shared.PipePairLemmas.{ends_by_pipe, ends_seen, same_pairs}
+use Rattle.shadow.proofs.shared.FixedKinds.{no_pipe}
 
 -- a pipe of the state is one of the store
 abbrev pub IsPipeThere : Option Object → Type 0
@@ -35,6 +36,7 @@ pipe_there None is = absurd cc
 pipe_there (Some (Kept_directory l)) is = absurd cc
 pipe_there (Some (Kept_file file)) is = absurd cc
 pipe_there (Some (Kept_pipe pipe)) is = (pipe, refl)
+pipe_there (Some (Kept_fixed fixed)) is = no_pipe fixed is
 pipe_there (Some (Kept_description opened)) is = absurd cc
 pipe_there (Some Nothing) is = absurd cc
 
@@ -58,6 +60,7 @@ module _ (f : OpenPipe → OpenPipe) where
   claims (Room r) t (Kept_pipe pipe) = refl
   claims (New_directory m) t (Kept_pipe pipe) = refl
   claims (Number m) t (Kept_pipe pipe) = refl
+  claims c t (Kept_fixed fixed) = refl
   claims c t (Kept_description opened) = refl
   claims c t Nothing = refl
 
@@ -70,6 +73,7 @@ module _ (f : OpenPipe → OpenPipe) where
   pipe_fits Coming (Kept_pipe pipe) fits = absurd fits
   pipe_fits Held (Kept_pipe pipe) fits = λ e. cc
   pipe_fits Removed (Kept_pipe pipe) fits = absurd cc
+  pipe_fits t (Kept_fixed fixed) fits = fits
   pipe_fits t (Kept_description opened) fits = fits
   pipe_fits t Nothing fits = fits
 
@@ -82,6 +86,7 @@ module _ (f : OpenPipe → OpenPipe) where
   files Held (Kept_directory l) = refl
   files Held (Kept_file file) = refl
   files Held (Kept_pipe pipe) = refl
+  files Held (Kept_fixed fixed) = refl
   files Held (Kept_description opened) = refl
   files Held Nothing = refl
 
@@ -91,6 +96,7 @@ module _ (f : OpenPipe → OpenPipe) where
   held_by Held (Kept_directory l) = refl
   held_by Held (Kept_file file) = refl
   held_by Held (Kept_pipe pipe) = refl
+  held_by Held (Kept_fixed fixed) = refl
   held_by Held (Kept_description opened) = refl
   held_by Held Nothing = refl
 
@@ -106,7 +112,10 @@ module _ (ps : Processes) (s : Numbers) (n taken : ℕ) (appended : List ℕ) (v
   fits = subst (λ (v : Committed). Fits [] v.state e) (sym is) fit
 
   made : state_of ps t ≡ applied [] e k
-  made = ap (λ m. stored ps m (descriptions t)) shown ∙ ap (stored ps (insert (inodes s) n (Pipe (drop taken (pipe_of_inode (get (inodes s) n)) ++ appended)))) same ∙ sym makes
+  made =
+      ap (λ m. stored ps m t.rights (descriptions t)) shown
+      ∙ ap (λ r. stored ps (insert (inodes s) n (Pipe (drop taken (pipe_of_inode (get (inodes s) n)) ++ appended))) r (descriptions t)) (ap (λ (t : Numbers). t.rights) changed)
+      ∙ ap (stored ps (insert (inodes s) n (Pipe (drop taken (pipe_of_inode (get (inodes s) n)) ++ appended))) s.rights) same ∙ sym makes
 
   counts : Counts k (altered (with_pipe (passed taken appended)) s n)
   counts = counts_stay k s (altered (with_pipe (passed taken appended)) s n)

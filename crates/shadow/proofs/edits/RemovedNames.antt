@@ -9,11 +9,11 @@ use Rattle.store.specs.Numbers.{Numbers}
 use Rattle.store.specs.Places.{altered, changed_object, with_listing, without_name}
 use Rattle.store.specs.declared.Stage.{Stage}
 use Rattle.store.specs.declared.Object.{Object}
-use Rattle.store.specs.declared.Object.TheVariants.{Directory as Kept_directory, File as Kept_file, Pipe as Kept_pipe}
+use Rattle.store.specs.declared.Object.TheVariants.{Directory as Kept_directory, File as Kept_file, Pipe as Kept_pipe, Fixed as Kept_fixed}
 use Rattle.store.specs.declared.Object.TheVariants.{Description as Kept_description, Nothing}
 use Rattle.store.proofs.Laws.{left-altered}
 use Rattle.shadow.specs.declared.change.Made.{Made as What}
-use Rattle.shadow.specs.declared.change.Made.TheVariants.{Directory as A_directory, File as A_file, Pipe as A_pipe}
+use Rattle.shadow.specs.declared.change.Made.TheVariants.{Directory as A_directory, File as A_file, Pipe as A_pipe, Fixed as A_fixed}
 use Rattle.shadow.specs.Claims.{Claim, New_directory, Number, Room}
 use Rattle.shadow.specs.Laid.{kept_in}
 use Rattle.shadow.specs.Steps.{unnaming}
@@ -32,6 +32,7 @@ unnamed_claims x (New_directory m) t (Kept_directory l) = refl
 unnamed_claims x (Number m) t (Kept_directory l) = refl
 unnamed_claims x c t (Kept_file file) = refl
 unnamed_claims x c t (Kept_pipe pipe) = refl
+unnamed_claims x c t (Kept_fixed fixed) = refl
 unnamed_claims x c t (Kept_description opened) = refl
 unnamed_claims x c t Nothing = refl
 
@@ -82,6 +83,7 @@ module _ (ps : Processes) (s : Numbers) (d : ℕ) (x : Name) (n : ℕ) (sound : 
       }
   unnaming_made A_file fits = unnaming_file fits
   unnaming_made A_pipe fits = unnaming_file fits
+  unnaming_made A_fixed fits = unnaming_file fits
 
   pub unnaming_tidies : (what : What) → Fits [] k (unnaming what d x n)
       → free_inode n (applied [] (unnaming what d x n) k)
@@ -91,4 +93,6 @@ module _ (ps : Processes) (s : Numbers) (d : ℕ) (x : Name) (n : ℕ) (sound : 
   unnaming_tidies A_file fits =
       sweep_is_tidy_lem.one [] k (Unname_file d x n) (tidied_of ps s sound) fits
   unnaming_tidies A_pipe fits =
+      sweep_is_tidy_lem.one [] k (Unname_file d x n) (tidied_of ps s sound) fits
+  unnaming_tidies A_fixed fits =
       sweep_is_tidy_lem.one [] k (Unname_file d x n) (tidied_of ps s sound) fits

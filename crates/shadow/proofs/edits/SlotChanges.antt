@@ -85,11 +85,13 @@ module _ (ps qs : Processes) (s t : Numbers) (pid f : ℕ) (given : Option ℕ)
   pub slotted_state : state_of qs t
       ≡ set_process pid (noted f given (process_of (state_of ps s) pid)) (state_of ps s)
   slotted_state =
-      ap (λ m. stored qs m (descriptions t)) laid.stay.same.inodes
-      ∙ ap (stored qs (inodes s)) laid.stay.descriptions
+      ap (λ m. stored qs m t.rights (descriptions t)) laid.stay.same.inodes
+      ∙ ap (λ r. stored qs (inodes s) r (descriptions t)) laid.stay.same.rights
+      ∙ ap (stored qs (inodes s) s.rights) laid.stay.descriptions
       ∙ (λ i. record {
         root = 0;
         inodes = inodes s;
+        rights = s.rights;
         descriptions = descriptions s;
         processes = processes_are i;
         made = laid.stay.count i;

@@ -3,17 +3,17 @@
 -- what it says of the state before.
 use Rattle.std.proofs.Common.{◌≡◌, ℕ, ◌+◌, List, [], ◌∷◌, Option, Some, None, false, refl, sym, ap, ◌∙◌}
 use Rattle.ids.specs.declared.edit.Mode.{Mode}
-use Rattle.model.specs.State.{Directory, File, Kernel, Name, Pipe}
+use Rattle.model.specs.State.{Directory, File, Fixed, Fixed_content, Kernel, Name, Pipe, Rights}
 use Rattle.model.specs.FiniteMap.{empty}
-use Rattle.model.specs.Changes.{Append, Cut, Edit, Make_directory, Make_file, Make_pipe, Open_inode}
+use Rattle.model.specs.Changes.{Append, Cut, Edit, Make_directory, Make_file, Make_fixed, Make_pipe, Open_inode}
 use Rattle.model.specs.Changes.{Move, Name_file, Put_bytes, Replaced, There, Which, applied, number}
-use Rattle.model.specs.Changes.{Take, open_at, to_read, to_write}
+use Rattle.model.specs.Changes.{Set_rights, Take, open_at, to_read, to_write}
 use Rattle.model.specs.Changes.{set_inode, set_name, tidy}
 use Rattle.call_laws.specs.Fits.{Fits}
 use Rattle.freeing_laws.specs.Sweep.{IsTidied, loses}
 use Rattle.freeing_laws.proofs.Laws.{sweep_is_tidy_lem}
 use Rattle.shadow.specs.declared.change.Made.{Made as What}
-use Rattle.shadow.specs.declared.change.Made.TheVariants.{Directory as A_directory, File as A_file, Pipe as A_pipe}
+use Rattle.shadow.specs.declared.change.Made.TheVariants.{Directory as A_directory, File as A_file, Pipe as A_pipe, Fixed as A_fixed}
 use Rattle.shadow.specs.Steps.{new_in, slotting, unnaming}
 
 -- a new object by its own number alone
@@ -28,6 +28,12 @@ module _ (chosen : List ℕ) (d : ℕ) (x : Name) (n i : ℕ) (first : i ≡ 0) 
   pub same_file : applied (n ∷ []) (Make_file d x 0) k ≡ applied chosen (Make_file d x i) k
   unfolding applied
   same_file = ap (λ n. set_name d x n (set_inode n (File []) k))
+      (new ∙ sym (ap (new_in chosen) first))
+
+  pub same_fixed : (fixed : Fixed_content)
+      → applied (n ∷ []) (Make_fixed d x fixed 0) k ≡ applied chosen (Make_fixed d x fixed i) k
+  unfolding applied
+  same_fixed fixed = ap (λ n. set_name d x n (set_inode n (Fixed fixed) k))
       (new ∙ sym (ap (new_in chosen) first))
 
 pub same_opening : (chosen : List ℕ) (i : ℕ) (inode : Which) (mode : Mode) (pid f n m : ℕ)
@@ -58,6 +64,7 @@ module _ (chosen : List ℕ) (k : Kernel) where
   same_unnaming A_directory d x n = refl
   same_unnaming A_file d x n = refl
   same_unnaming A_pipe d x n = refl
+  same_unnaming A_fixed d x n = refl
 
   pub same_linking : (d : ℕ) (x : Name) (n : ℕ)
       → applied [] (Name_file d x n) k ≡ applied chosen (Name_file d x n) k
@@ -88,6 +95,11 @@ module _ (chosen : List ℕ) (k : Kernel) where
       → applied [] (Append n bytes) k ≡ applied chosen (Append n bytes) k
   unfolding applied
   same_append n bytes = refl
+
+  pub same_set_rights : (n : ℕ) (rights : Rights)
+      → applied [] (Set_rights n rights) k ≡ applied chosen (Set_rights n rights) k
+  unfolding applied
+  same_set_rights n rights = refl
 
   pub same_slotting : (given : Option ℕ) (pid f : ℕ) (pipes : List ℕ)
       → applied [] (slotting given pid f pipes) k ≡ applied chosen (slotting given pid f pipes) k

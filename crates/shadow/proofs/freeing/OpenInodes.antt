@@ -2,7 +2,8 @@
 use Rattle.std.proofs.Common.{◌≡◌, ◌≢◌, ℕ, ◌<◌, ◌||◌, nat_lt, lt-ltb, Bool, true, false, Option, Some, None, refl, sym, ap, ◌∙◌}
 use Rattle.std.specs.Option.{option_and_then}
 use Rattle.model.specs.FiniteMap.{get}
-use Rattle.model.specs.State.{kind, mapped}
+use Rattle.ids.specs.Fixed.{fixed_kind}
+use Rattle.model.specs.State.{A_directory, kind, mapped}
 use Rattle.model.specs.Changes.{openings}
 use Rattle.freeing_laws.specs.Pipes.{is_of}
 use Rattle.freeing_laws.proofs.Pipes.{pipes_keep_their_ends_lem}
@@ -14,10 +15,11 @@ use Rattle.store.specs.declared.Place.{Place}
 use Rattle.store.specs.declared.Stage.{Stage}
 use Rattle.store.specs.declared.Stage.TheVariants.{Coming, Held, Removed}
 use Rattle.store.specs.declared.Object.{Object}
-use Rattle.store.specs.declared.Object.TheVariants.{Directory as Kept_directory, File as Kept_file, Pipe as Kept_pipe, Description as Kept_description, Nothing}
+use Rattle.store.specs.declared.Object.TheVariants.{Directory as Kept_directory, File as Kept_file, Pipe as Kept_pipe, Fixed as Kept_fixed, Description as Kept_description, Nothing}
 use Rattle.store.proofs.Laws.{get-inodes}
 use Rattle.shadow.specs.Laid.{Holds}
 use Rattle.shadow.specs.Stored.{Processes, state_of}
+use Rattle.shadow.proofs.shared.FixedKinds.{not_opened}
 
 -- what a look for a pipe found
 pub pipe_there : (o : Option Object) (pipe : OpenPipe) → Some pipe ≡ option_and_then pipe_of o → o ≡ Some (Kept_pipe pipe)
@@ -27,6 +29,7 @@ pipe_there (Some (Kept_pipe other)) pipe is = ap (λ (o : Option OpenPipe). with
     with_pipe : OpenPipe → Option OpenPipe → Option Object
     with_pipe p (Some q) = Some (Kept_pipe q)
     with_pipe p None = Some (Kept_pipe p)
+pipe_there (Some (Kept_fixed fixed)) pipe is = absurd cc
 pipe_there (Some (Kept_directory listing)) pipe is = absurd cc
 pipe_there (Some (Kept_file file)) pipe is = absurd cc
 pipe_there (Some (Kept_description opened)) pipe is = absurd cc
@@ -51,8 +54,9 @@ module _ (ps : Processes) (s : Numbers) (n : ℕ) (holds : Holds ps s) where
     where
       by_object : (object : Object) → object_at s n ≡ Some object → inode_of object ≢ None → pipe_of object ≡ None → openings_of (file_of object) ≡ openings (state_of ps s) n
       by_object (Kept_file file) is there no_pipe = holds.counted.openings n file is
-      by_object (Kept_directory l) is there no_pipe = sym (holds.unopened n (ap (mapped kind) (get-inodes s n ∙ ap (option_and_then inode_of) is)))
+      by_object (Kept_directory l) is there no_pipe = sym (holds.unopened n A_directory (ap (mapped kind) (get-inodes s n ∙ ap (option_and_then inode_of) is)) (λ can. can))
       by_object (Kept_pipe pipe) is there no_pipe = absurd cc
+      by_object (Kept_fixed fixed) is there no_pipe = sym (holds.unopened n (fixed_kind fixed) (ap (mapped kind) (get-inodes s n ∙ ap (option_and_then inode_of) is)) (not_opened fixed))
       by_object (Kept_description opened) is there no_pipe = absurd (there refl)
       by_object Nothing is there no_pipe = absurd (there refl)
 

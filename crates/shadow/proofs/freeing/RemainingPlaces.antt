@@ -4,7 +4,7 @@ use Rattle.std.specs.Option.{option_map, option_and_then}
 use Rattle.std.proofs.lemmas.Bool.{cases_eq}
 use Rattle.model.specs.FiniteMap.{get}
 use Rattle.store.specs.Numbers.{Numbers, held, if_held, object_at}
-use Rattle.store.specs.Places.{altered, changed_file, changed_opened, hidden, has_room, is_coming, is_coming_by, is_over, is_over_by, listing_of, lost, with_file, with_opened}
+use Rattle.store.specs.Places.{altered, changed_file, changed_opened, hidden, has_room, is_coming, is_coming_by, is_over, is_over_by, listing_of, lost, unset, with_file, with_opened}
 use Rattle.store.specs.Shown.{inodes, inode_of, descriptions, description_of}
 use Rattle.store.specs.declared.OpenFile.{OpenFile}
 use Rattle.store.specs.declared.Opened.{Opened}
@@ -12,7 +12,7 @@ use Rattle.store.specs.declared.Place.{Place}
 use Rattle.store.specs.declared.Stage.{Stage}
 use Rattle.store.specs.declared.Stage.TheVariants.{Coming, Held, Removed}
 use Rattle.store.specs.declared.Object.{Object}
-use Rattle.store.specs.declared.Object.TheVariants.{Directory as Kept_directory, File as Kept_file, Pipe as Kept_pipe, Description as Kept_description, Nothing}
+use Rattle.store.specs.declared.Object.TheVariants.{Directory as Kept_directory, File as Kept_file, Pipe as Kept_pipe, Fixed as Kept_fixed, Description as Kept_description, Nothing}
 use Rattle.store.proofs.Laws.{get-chosen, get-inodes, get-descriptions, left-altered, place-altered, place-other, place-over, place-swept-other, swept-stays, without_place}
 use Rattle.shadow.specs.Claims.{Claim, Room, New_directory, Number, number_of, or_zero, room_of, coming_directory, coming_other}
 use Rattle.shadow.specs.Laid.{kept_in}
@@ -28,12 +28,12 @@ not_true true e = absurd cc
 
 -- a removed object leaves the other places
 pub lost_other : (s : Numbers) (n q : ℕ) → q ≢ n → get (lost s n).places q ≡ get s.places q
-lost_other s n q away = place-swept-other (altered hidden s n) n q away ∙ place-other hidden s n q away
+lost_other s n q away = place-swept-other (altered hidden (unset s n) n) n q away ∙ place-other hidden (unset s n) n q away
 
 pub lost_root : (s : Numbers) (n : ℕ) → (lost s n).root ≡ s.root
-lost_root s n = by_test (is_over (get (altered hidden s n).places n))
+lost_root s n = by_test (is_over (get (altered hidden (unset s n) n).places n))
   where
-    by_test : (b : Bool) → (cond b (without_place (altered hidden s n) n) (altered hidden s n)).root ≡ s.root
+    by_test : (b : Bool) → (cond b (without_place (altered hidden (unset s n) n) n) (altered hidden (unset s n) n)).root ≡ s.root
     by_test true = refl
     by_test false = refl
 
@@ -43,11 +43,11 @@ held_hidden (Some place) = refl
 
 -- it is shown no more
 pub lost_here : (s : Numbers) (n : ℕ) → object_at (lost s n) n ≡ None
-lost_here s n = by_test (is_over (get (altered hidden s n).places n)) refl
+lost_here s n = by_test (is_over (get (altered hidden (unset s n) n).places n)) refl
   where
-    by_test : (b : Bool) → is_over (get (altered hidden s n).places n) ≡ b → object_at (lost s n) n ≡ None
-    by_test true over = ap held (place-over (altered hidden s n) n over)
-    by_test false left = ap (λ (t : Numbers). object_at t n) (swept-stays (altered hidden s n) n left) ∙ ap held (place-altered hidden s n) ∙ held_hidden (get s.places n)
+    by_test : (b : Bool) → is_over (get (altered hidden (unset s n) n).places n) ≡ b → object_at (lost s n) n ≡ None
+    by_test true over = ap held (place-over (altered hidden (unset s n) n) n over)
+    by_test false left = ap (λ (t : Numbers). object_at t n) (swept-stays (altered hidden (unset s n) n) n left) ∙ ap held (place-altered hidden (unset s n) n) ∙ held_hidden (get s.places n)
 
 pub lost_before : (s : Numbers) (n q : ℕ) (object : Object) → object_at (lost s n) q ≡ Some object → object_at s q ≡ Some object
 lost_before s n q object is = elim (cases_eq q n) [
@@ -65,14 +65,14 @@ hidden_staged (Some place) left = not_false (has_room (listing_of place.object))
 
 pub lost_staged : (s : Numbers) (n : ℕ) → ((m : ℕ) → IsStaged (get s.places m)) → (m : ℕ) → IsStaged (get (lost s n).places m)
 lost_staged s n staged m = elim (cases_eq m n) [
-  | inl same ↦ subst (λ m. IsStaged (get (lost s n).places m)) (sym same) (by_test (is_over (get (altered hidden s n).places n)) refl)
+  | inl same ↦ subst (λ m. IsStaged (get (lost s n).places m)) (sym same) (by_test (is_over (get (altered hidden (unset s n) n).places n)) refl)
   | inr away ↦ subst IsStaged (sym (lost_other s n m away)) (staged m)
 ]
   where
-    by_test : (b : Bool) → is_over (get (altered hidden s n).places n) ≡ b → IsStaged (get (lost s n).places n)
-    by_test true over = subst IsStaged (sym (place-over (altered hidden s n) n over)) tt
-    by_test false left = subst (λ (t : Numbers). IsStaged (get t.places n)) (sym (swept-stays (altered hidden s n) n left))
-        (subst IsStaged (sym (place-altered hidden s n)) (hidden_staged (get s.places n) (sym (ap is_over (place-altered hidden s n)) ∙ left)))
+    by_test : (b : Bool) → is_over (get (altered hidden (unset s n) n).places n) ≡ b → IsStaged (get (lost s n).places n)
+    by_test true over = subst IsStaged (sym (place-over (altered hidden (unset s n) n) n over)) tt
+    by_test false left = subst (λ (t : Numbers). IsStaged (get t.places n)) (sym (swept-stays (altered hidden (unset s n) n) n left))
+        (subst IsStaged (sym (place-altered hidden (unset s n) n)) (hidden_staged (get s.places n) (sym (ap is_over (place-altered hidden (unset s n) n)) ∙ left)))
 
 -- how often a place meets a claim on its number
 abbrev pub kept_by : Claim → Option Place → ℕ
@@ -97,6 +97,7 @@ no_room : (object : Object) → has_room (listing_of object) ≡ false → kept_
 no_room (Kept_directory l) e = let low : l.promised ≤ 0 = ltb-false 0 l.promised e in omega arith
 no_room (Kept_file file) e = refl
 no_room (Kept_pipe pipe) e = refl
+no_room (Kept_fixed fixed) e = refl
 no_room (Kept_description opened) e = refl
 no_room Nothing e = refl
 
@@ -128,14 +129,14 @@ hidden_keeps (Some place) c settled = by_stage place.stage place.object c settle
 pub lost_keeps : (s : Numbers) (n : ℕ) → is_coming (get s.places n) ≡ false → (c : Claim) → kept_in (lost s n) c ≡ kept_in s c
 lost_keeps s n settled = kept_alike s (lost s n) each
   where
-    by_test : (c : Claim) (b : Bool) → is_over (get (altered hidden s n).places n) ≡ b → kept_by c (get (lost s n).places n) ≡ kept_by c (get (altered hidden s n).places n)
-    by_test c true over = ap (kept_by c) (place-over (altered hidden s n) n over) ∙ no_place c ∙ sym (over_keeps_none (get (altered hidden s n).places n) c over)
-    by_test c false left = ap (λ (t : Numbers). kept_by c (get t.places n)) (swept-stays (altered hidden s n) n left)
+    by_test : (c : Claim) (b : Bool) → is_over (get (altered hidden (unset s n) n).places n) ≡ b → kept_by c (get (lost s n).places n) ≡ kept_by c (get (altered hidden (unset s n) n).places n)
+    by_test c true over = ap (kept_by c) (place-over (altered hidden (unset s n) n) n over) ∙ no_place c ∙ sym (over_keeps_none (get (altered hidden (unset s n) n).places n) c over)
+    by_test c false left = ap (λ (t : Numbers). kept_by c (get t.places n)) (swept-stays (altered hidden (unset s n) n) n left)
 
     each : (m : ℕ) (c : Claim) → kept_by c (get (lost s n).places m) ≡ kept_by c (get s.places m)
     each m c = elim (cases_eq m n) [
-      | inl same ↦ ap (λ m. kept_by c (get (lost s n).places m)) same ∙ by_test c (is_over (get (altered hidden s n).places n)) refl
-          ∙ ap (kept_by c) (place-altered hidden s n) ∙ hidden_keeps (get s.places n) c settled ∙ ap (λ m. kept_by c (get s.places m)) (sym same)
+      | inl same ↦ ap (λ m. kept_by c (get (lost s n).places m)) same ∙ by_test c (is_over (get (altered hidden (unset s n) n).places n)) refl
+          ∙ ap (kept_by c) (place-altered hidden (unset s n) n) ∙ hidden_keeps (get s.places n) c settled ∙ ap (λ m. kept_by c (get s.places m)) (sym same)
       | inr away ↦ ap (kept_by c) (lost_other s n m away)
     ]
 
@@ -162,6 +163,7 @@ file_claims f (Room r) t (Kept_file file) = refl
 file_claims f (New_directory m) t (Kept_file file) = refl
 file_claims f (Number m) t (Kept_file file) = refl
 file_claims f c t (Kept_pipe pipe) = refl
+file_claims f c t (Kept_fixed fixed) = refl
 file_claims f c t (Kept_description opened) = refl
 file_claims f c t Nothing = refl
 
@@ -174,6 +176,7 @@ file_fits f Coming (Kept_file file) fits = absurd fits
 file_fits f Held (Kept_file file) fits = λ e. cc
 file_fits f Removed (Kept_file file) fits = absurd cc
 file_fits f t (Kept_pipe pipe) fits = fits
+file_fits f t (Kept_fixed fixed) fits = fits
 file_fits f t (Kept_description opened) fits = fits
 file_fits f t Nothing fits = fits
 
@@ -181,6 +184,7 @@ opened_fits : (f : Opened → Opened) (t : Stage) (object : Object) → FitsStag
 opened_fits f t (Kept_directory l) fits = fits
 opened_fits f t (Kept_file file) fits = fits
 opened_fits f t (Kept_pipe pipe) fits = fits
+opened_fits f t (Kept_fixed fixed) fits = fits
 opened_fits f Coming (Kept_description opened) fits = absurd fits
 opened_fits f Held (Kept_description opened) fits = λ e. cc
 opened_fits f Removed (Kept_description opened) fits = absurd cc

@@ -4,13 +4,13 @@ use Rattle.std.specs.Option.{option_map, option_and_then}
 use Rattle.std.specs.Cmp.Lexicographic.{nat_list_cmp_total}
 use Rattle.std.proofs.lemmas.Bool.{cases_eq, or_left, or_right}
 use Rattle.model.specs.FiniteMap.{get, remove, empty, same_map, get-empty}
-use Rattle.model.specs.State.{Name, Kernel, Inode, Description, A_directory, name_cmp, kind, kind_of, mapped, names_of, names_of_inode, links}
+use Rattle.model.specs.State.{Name, Kernel, Inode, Description, Kind, name_cmp, kind, kind_of, mapped, names_of, names_of_inode, links}
 use Rattle.model.specs.Changes.{holders, is_held, is_reached, openings}
 use Rattle.model.proofs.Laws.{name_exact, removed_same, removed_other}
 use Rattle.call_laws.proofs.Laws.{empty_gives, none_count, not_none, true_is_false}
 use Rattle.freeing_laws.specs.Counts.{free_description, free_inode, opens}
 use Rattle.freeing_laws.specs.Pipes.{ArePair}
-use Rattle.freeing_laws.specs.Sweep.{AreParented, closed, free_inodes, inode_in as opened_in}
+use Rattle.freeing_laws.specs.Sweep.{AreParented, AreSet, closed, free_inodes, inode_in as opened_in}
 use Rattle.freeing_laws.proofs.Laws.{sweep_is_tidy_lem}
 use Rattle.freeing_laws.proofs.Openings.{openings_change_lem}
 use Rattle.store.specs.Links.{links_in}
@@ -23,8 +23,8 @@ use Rattle.store.specs.declared.Place.{Place}
 use Rattle.store.specs.declared.Stage.{Stage}
 use Rattle.store.specs.declared.Stage.TheVariants.{Coming, Held, Removed}
 use Rattle.store.specs.declared.Object.{Object}
-use Rattle.store.specs.declared.Object.TheVariants.{Directory as Kept_directory, File as Kept_file, Pipe as Kept_pipe, Description as Kept_description, Nothing}
-use Rattle.store.proofs.Laws.{get-inodes, get-descriptions, inodes-lost, descriptions-lost, links-links_in, place-altered, place-other, remove-absent}
+use Rattle.store.specs.declared.Object.TheVariants.{Directory as Kept_directory, File as Kept_file, Pipe as Kept_pipe, Fixed as Kept_fixed, Description as Kept_description, Nothing}
+use Rattle.store.proofs.Laws.{get-inodes, get-descriptions, inodes-lost, descriptions-lost, rights-lost, links-links_in, place-altered, place-other, remove-absent}
 use Rattle.shadow.specs.Laid.{Frees, Holds}
 use Rattle.shadow.specs.Stored.{Processes, state_of, stored}
 use Rattle.shadow.proofs.shared.PipePairLemmas.{pair_removed, pipe_by_file, pipe_stood, same_pairs}
@@ -60,6 +60,7 @@ one_kind s d there = get-inodes s d ∙ by_object (object_at s d) (λ none. ther
     by_object (Some (Kept_directory l)) there = absurd (there refl)
     by_object (Some (Kept_file file)) there = absurd (there refl)
     by_object (Some (Kept_pipe pipe)) there = absurd (there refl)
+    by_object (Some (Kept_fixed fixed)) there = absurd (there refl)
     by_object (Some (Kept_description opened)) there = refl
     by_object (Some Nothing) there = absurd (there refl)
 
@@ -71,6 +72,7 @@ not_described s n there = get-descriptions s n ∙ by_object (object_at s n) (λ
     by_object (Some (Kept_directory l)) there = refl
     by_object (Some (Kept_file file)) there = refl
     by_object (Some (Kept_pipe pipe)) there = refl
+    by_object (Some (Kept_fixed fixed)) there = refl
     by_object (Some (Kept_description opened)) there = absurd (there refl)
     by_object (Some Nothing) there = absurd (there refl)
 
@@ -105,15 +107,15 @@ module _ (ps : Processes) (s : Numbers) (n : ℕ) (holds : Holds ps s) where
 
   pub stays_reached : is_reached (state_of ps s) n ≡ true → Frees (free_inode n) ps s s
   unfolding free_inode openings links
-  stays_reached is = record { state = sym (ap (λ b. cond b k (record k { inodes = remove (inodes s) n })) is); holds = holds; kept = λ c. refl }
+  stays_reached is = record { state = sym (ap (λ b. cond b k (record k { inodes = remove (inodes s) n; rights = remove s.rights n })) is); holds = holds; kept = λ c. refl }
 
   pub stays_absent : get (inodes s) n ≡ None → Frees (free_inode n) ps s s
   unfolding free_inode openings links
   stays_absent none = record { state = by_test (is_reached k n); holds = holds; kept = λ c. refl }
     where
-      by_test : (b : Bool) → k ≡ cond b k (record k { inodes = remove (inodes s) n })
+      by_test : (b : Bool) → k ≡ cond b k (record k { inodes = remove (inodes s) n; rights = remove s.rights n })
       by_test true = refl
-      by_test false = sym (ap (λ m. stored ps m (descriptions s)) (remove-absent (inodes s) n none))
+      by_test false = sym (ap (λ m. stored ps m (remove s.rights n) (descriptions s)) (remove-absent (inodes s) n none) ∙ ap (λ r. stored ps (inodes s) r (descriptions s)) (remove-absent s.rights n (holds.set n none)))
 
   module _ (there : get (inodes s) n ≢ None) (is : is_reached (state_of ps s) n ≡ false) where
     abbrev t : Numbers
@@ -124,7 +126,16 @@ module _ (ps : Processes) (s : Numbers) (n : ℕ) (holds : Holds ps s) where
 
     state : state_of ps (lost s n) ≡ free_inode n (state_of ps s)
     unfolding free_inode openings links
-    state = ap (λ m. stored ps m (descriptions t)) (inodes-lost s n) ∙ ap (stored ps (remove (inodes s) n)) same_descriptions ∙ sym (ap (λ b. cond b k (record k { inodes = remove (inodes s) n })) is)
+    state =
+        ap (λ m. stored ps m t.rights (descriptions t)) (inodes-lost s n) ∙ ap (λ r. stored ps (remove (inodes s) n) r (descriptions t)) (rights-lost s n)
+        ∙ ap (stored ps (remove (inodes s) n) (remove s.rights n)) same_descriptions ∙ sym (ap (λ b. cond b k (record k { inodes = remove (inodes s) n; rights = remove s.rights n })) is)
+
+    -- rights are set of what is left alone
+    still_set : AreSet (state_of ps (lost s n))
+    still_set m none = ap (λ r. get r m) (rights-lost s n) ∙ elim (cases_eq m n) [
+      | inl same ↦ ap (get (remove s.rights n)) same ∙ removed_same s.rights n
+      | inr away ↦ removed_other s.rights n m away ∙ holds.set m (sym (removed_other (inodes s) n m away) ∙ ap (λ q. get q m) (sym (inodes-lost s n)) ∙ none)
+    ]
 
     inode_before : (m : ℕ) (i : Inode) → get (inodes (lost s n)) m ≡ Some i → get (inodes s) m ≡ Some i
     inode_before m i gives = elim (cases_eq m n) [
@@ -139,11 +150,11 @@ module _ (ps : Processes) (s : Numbers) (n : ℕ) (holds : Holds ps s) where
         by_inode None e gives = absurd (empty_gives name_cmp x d gives)
         by_inode (Some i) e gives = ap (λ o. get (names_of_inode o) x) (inode_before m i e) ∙ gives
 
-    kind_before : (m : ℕ) → mapped kind (get (inodes (lost s n)) m) ≡ Some A_directory → mapped kind (get (inodes s) m) ≡ Some A_directory
-    kind_before m is = by_inode (get (inodes t) m) refl is
+    kind_before : (m : ℕ) (what : Kind) → mapped kind (get (inodes (lost s n)) m) ≡ Some what → mapped kind (get (inodes s) m) ≡ Some what
+    kind_before m what is = by_inode (get (inodes t) m) refl is
       where
-        by_inode : (o : Option Inode) → get (inodes t) m ≡ o → mapped kind o ≡ Some A_directory → mapped kind (get (inodes s) m) ≡ Some A_directory
-        by_inode None e is = absurd (not_none A_directory (sym is))
+        by_inode : (o : Option Inode) → get (inodes t) m ≡ o → mapped kind o ≡ Some what → mapped kind (get (inodes s) m) ≡ Some what
+        by_inode None e is = absurd (not_none what (sym is))
         by_inode (Some i) e is = ap (mapped kind) (inode_before m i e) ∙ is
 
     same_openings : (m : ℕ) → openings (state_of ps (lost s n)) m ≡ openings (state_of ps s) m
@@ -155,8 +166,9 @@ module _ (ps : Processes) (s : Numbers) (n : ℕ) (holds : Holds ps s) where
       holds = record {
         root = lost_root s n ∙ holds.root;
         parented = subst AreParented (sym state) (sweep_is_tidy_lem.turn k n holds.parented);
+        set = still_set;
         unnamed = λ d m x there gives. holds.unnamed d m x (λ none. there (ap (λ q. get q d) same_descriptions ∙ none)) (name_before m x d gives);
-        unopened = λ m is. same_openings m ∙ holds.unopened m (kind_before m is);
+        unopened = λ m what is never. same_openings m ∙ holds.unopened m what (kind_before m what is) never;
         staged = lost_staged s n holds.staged;
         counted = record {
           openings = λ m file is. holds.counted.openings m file (lost_before s n m (Kept_file file) is) ∙ sym (same_openings m);
@@ -188,6 +200,7 @@ shown_description s d it is = by_place (get s.places d) refl (sym (get-descripti
     by_object (Kept_directory l) at is = absurd (not_none it (sym is))
     by_object (Kept_file file) at is = absurd (not_none it (sym is))
     by_object (Kept_pipe pipe) at is = absurd (not_none it (sym is))
+    by_object (Kept_fixed fixed) at is = absurd (not_none it (sym is))
     by_object Nothing at is = absurd (not_none it (sym is))
 
     by_place : (o : Option Place) → get s.places d ≡ o → option_and_then description_of (held o) ≡ Some it → IsShown s d it
@@ -218,6 +231,7 @@ file_before (Some place) file is = by_stage place.stage place.object is
         count _ = 0
     by_object (Kept_directory l) is = absurd cc
     by_object (Kept_pipe pipe) is = absurd cc
+    by_object (Kept_fixed fixed) is = absurd cc
     by_object (Kept_description opened) is = absurd cc
     by_object Nothing is = absurd cc
 
@@ -233,6 +247,7 @@ opened_before (Some place) opened is = by_stage place.stage place.object is
     by_object : (object : Object) → Some (changed_file less_openings object) ≡ Some (Kept_description opened) → Some object ≡ Some (Kept_description opened)
     by_object (Kept_file before) is = absurd cc
     by_object (Kept_pipe pipe) is = absurd cc
+    by_object (Kept_fixed fixed) is = absurd cc
     by_object (Kept_directory l) is = absurd cc
     by_object (Kept_description opened) is = is
     by_object Nothing is = absurd cc
@@ -286,11 +301,16 @@ module _ (ps : Processes) (s : Numbers) (d : ℕ) (it : Description) (holds : Ho
     goes : (n : ℕ) → openings after n + opens n (Some it) ≡ openings (state_of ps s) n
     goes n = ap (λ o. openings after n + opens n o) (sym is) ∙ openings_change_lem.goes (state_of ps s) d n
 
+    -- of a description none are set
+    same_rights : left.rights ≡ s.rights
+    same_rights = rights-lost s d ∙ remove-absent s.rights d (holds.set d (one_kind s d there))
+
     module _ (same_inodes : inodes left ≡ inodes hid) (same_descriptions : descriptions left ≡ descriptions hid) where
       left_state : state_of ps left ≡ after
       left_state =
-          ap (λ m. stored ps m (descriptions left)) (same_inodes ∙ inodes-lost s d ∙ remove-absent (inodes s) d (one_kind s d there))
-          ∙ ap (stored ps (inodes s)) (same_descriptions ∙ descriptions-lost s d)
+          ap (λ m. stored ps m left.rights (descriptions left)) (same_inodes ∙ inodes-lost s d ∙ remove-absent (inodes s) d (one_kind s d there))
+          ∙ ap (λ r. stored ps (inodes s) r (descriptions left)) same_rights
+          ∙ ap (stored ps (inodes s) s.rights) (same_descriptions ∙ descriptions-lost s d)
 
       there_before : (e : ℕ) → get (descriptions left) e ≢ None → get (descriptions s) e ≢ None
       there_before e there none = there (ap (λ (k : Kernel). get k.descriptions e) left_state ∙ elim (cases_eq e d) [
@@ -331,8 +351,9 @@ module _ (ps : Processes) (s : Numbers) (d : ℕ) (it : Description) (holds : Ho
         holds = record {
           root = lost_root s d ∙ holds.root;
           parented = subst AreParented (sym left_state) parented;
+          set = subst AreSet (sym left_state) holds.set;
           unnamed = λ e n x there gives. holds.unnamed e n x (there_before e there) (ap (λ (k : Kernel). get (names_of k n) x) (sym left_state) ∙ gives);
-          unopened = λ n is. ap (λ (k : Kernel). openings k n) left_state ∙ none_more n (holds.unopened n (ap (λ (k : Kernel). kind_of k n) (sym left_state) ∙ is));
+          unopened = λ n what is never. ap (λ (k : Kernel). openings k n) left_state ∙ none_more n (holds.unopened n what (ap (λ (k : Kernel). kind_of k n) (sym left_state) ∙ is) never);
           staged = file_staged less_openings hid it.inode (lost_staged s d holds.staged);
           counted = record {
             openings = λ n file at. file_counted n file at ∙ ap (λ (k : Kernel). openings k n) (sym left_state);
@@ -371,4 +392,4 @@ closes_nothing ps s d holds none = record {
   where
     by_test : (b : Bool) → state_of ps s ≡ cond b (state_of ps s) (record (state_of ps s) { descriptions = remove (descriptions s) d })
     by_test true = refl
-    by_test false = sym (ap (stored ps (inodes s)) (remove-absent (descriptions s) d none))
+    by_test false = sym (ap (stored ps (inodes s) s.rights) (remove-absent (descriptions s) d none))

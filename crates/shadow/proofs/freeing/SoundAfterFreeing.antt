@@ -1,11 +1,11 @@
 -- A well-formed state that is stored holds on the way, and what is freed then makes it sound again.
 use Rattle.std.proofs.Common.{◌≡◌, ◌≢◌, ℕ, List, Some, None, sym, ap, subst, ◌∙◌}
 use Rattle.model.specs.FiniteMap.{get}
-use Rattle.model.specs.State.{A_directory, Kernel, Name, kind, kind_of, mapped, names_of}
+use Rattle.model.specs.State.{Kernel, Kind, Name, kind, kind_of, mapped, names_of}
 use Rattle.model.specs.Changes.{Edit, applied, openings, tidy}
 use Rattle.call_laws.specs.WellFormed.{CanBeNamed, CanBeOpened, WellFormed}
 use Rattle.call_laws.specs.Fits.{Fits}
-use Rattle.call_laws.proofs.Laws.{well_stays}
+use Rattle.call_laws.proofs.Laws.{unset, well_stays}
 use Rattle.freeing_laws.proofs.Openings.{openings_change_lem}
 use Rattle.store.specs.Numbers.{Numbers}
 use Rattle.store.specs.Shown.{descriptions}
@@ -21,16 +21,17 @@ module _ (ps : Processes) (s : Numbers) (root : s.root ≡ 0) (well : WellFormed
     unnamed d n x there gives =
         subst CanBeNamed (ap (mapped kind) (one_kind s d there)) (well.names n x d gives)
 
-    unopened : (n : ℕ) → kind_of (state_of ps s) n ≡ Some A_directory
-        → openings (state_of ps s) n ≡ 0
-    unopened n is = openings_change_lem.unopened (state_of ps s) n
-        (λ d it gives same. subst CanBeOpened (ap (kind_of (state_of ps s)) same ∙ is)
-        (well.descriptions d it gives))
+    unopened : (n : ℕ) (what : Kind) → kind_of (state_of ps s) n ≡ Some what
+        → (CanBeOpened (Some what) → ⊥) → openings (state_of ps s) n ≡ 0
+    unopened n what is never = openings_change_lem.unopened (state_of ps s) n
+        (λ d it gives same. never (subst CanBeOpened (ap (kind_of (state_of ps s)) same ∙ is)
+        (well.descriptions d it gives)))
 
     pub holds_well : ((n : ℕ) → IsStaged (get s.places n)) → AreCounted ps s → Holds ps s
     holds_well staged counted = record {
       root = root;
       parented = well.parents;
+      set = λ n none. unset (state_of ps s) n well none;
       unnamed = unnamed;
       unopened = unopened;
       staged = staged;

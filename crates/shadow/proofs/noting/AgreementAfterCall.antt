@@ -19,18 +19,19 @@ use Rattle.shadow.specs.Committed.{Committed}
 use Rattle.shadow.specs.Log.{effect}
 use Rattle.shadow.specs.Notes.{SamePatches}
 use Rattle.freeing_laws.proofs.Laws.{sweep_is_tidy_lem}
-use Rattle.shadow.specs.Patches.{AllReach, new_ends, Net, Patches, added_by, form_of, is_new, kept_at, net_at, numbers_in, patched, reopened, reslotted_by, slots_in}
+use Rattle.shadow.specs.Patches.{AllReach, new_ends, Net, Patches, added_by, form_of, is_new, kept_at, net_at, numbers_in, patched, reopened, reslotted_by, rights_over, slots_in}
 use Rattle.shadow.specs.Steps.{AreApart, CanEdit, IsOne, TakesAll, blocks_by, parents_in}
 use Rattle.shadow.proofs.noting.AgreementAfterEdit.{Along, along_all, along_same}
 use Rattle.shadow.proofs.claims.EditClaims.{AreFree, all_one, claims_more, other_claims}
 
 -- nothing is changed
-pub agrees_none : Agrees [] (record { inodes = []; openings = []; slots = []; unnamed_inodes = [] })
+pub agrees_none : Agrees [] (record { inodes = []; rights = []; openings = []; slots = []; unnamed_inodes = [] })
 agrees_none = record {
   root = λ k. refl;
   count = λ k. refl;
   largest = λ k. refl;
   inodes = λ k n fit. refl;
+  rights = λ k n. refl;
   descriptions = λ k d. refl;
   processes = λ k pid. refl;
   named = λ n. refl;
@@ -47,7 +48,7 @@ agrees_none = record {
   alive = λ k pid f some. absurd (some refl);
 }
   where
-    none : (c : Claim) → claimed c [] ≡ claim_in (record { inodes = []; openings = []; slots = []; unnamed_inodes = [] }) c
+    none : (c : Claim) → claimed c [] ≡ claim_in (record { inodes = []; rights = []; openings = []; slots = []; unnamed_inodes = [] }) c
     none (Room d) = refl
     none (New_directory n) = refl
     none (Number n) = refl
@@ -88,6 +89,7 @@ along_of ds p a = record {
   count = a.count;
   largest = a.largest;
   inodes = a.inodes;
+  rights = a.rights;
   descriptions = a.descriptions;
   processes = a.processes;
   named = a.named;
@@ -110,6 +112,7 @@ of_along ds p claims a = record {
   count = a.count;
   largest = a.largest;
   inodes = a.inodes;
+  rights = a.rights;
   descriptions = a.descriptions;
   processes = a.processes;
   named = a.named;
@@ -173,6 +176,7 @@ agrees_same ds p q s a = record {
   count = a.count;
   largest = a.largest;
   inodes = λ k n fit. a.inodes k n fit ∙ ap (λ c. patched c (get k.inodes n)) (sym (contents n));
+  rights = λ k n. a.rights k n ∙ ap (λ o. rights_over o (get k.rights n)) (sym (s.rights n));
   descriptions = λ k d. a.descriptions k d ∙ ap (λ o. reopened o (get k.descriptions d)) (sym (s.openings d));
   processes = λ k pid. a.processes k pid ∙ sym (s.processes pid (get k.processes pid));
   named = λ n. a.named n ∙ sym (ap (λ (net : Net). net.named) (s.inodes.nets n));

@@ -15,10 +15,10 @@ use Rattle.freeing_laws.proofs.Pipes.{pipes_keep_their_ends_lem}
 use Rattle.freeing_laws.specs.Counts.{named, times, unnamed}
 use Rattle.freeing_laws.specs.Left.{all_named, all_unnamed}
 use Rattle.shadow.specs.declared.change.Contents.{Contents}
-use Rattle.shadow.specs.declared.change.Contents.TheVariants.{Same, Names, Bytes, Pipe as Piped}
+use Rattle.shadow.specs.declared.change.Contents.TheVariants.{Same, Names, Bytes, Pipe as Piped, Fixed as As_fixed}
 use Rattle.shadow.specs.Agrees.{IsOver, IsOverDescription}
-use Rattle.shadow.specs.Patches.{AllReach, new_ends, no_change, Patches, added_by, form_of, kept_at, net_at, numbers_in, opening_at, patched, reopened, reslotted, reslotted_by, slots_in}
-use Rattle.shadow.specs.Steps.{CanPass, MakesPipe, Applies, AreApart, IsOne, TakesAll, TakesIn, blocks_by, description_after, inode_after, made_after, new_in, numbers_kept, opened_in, parents_in, process_after}
+use Rattle.shadow.specs.Patches.{AllReach, new_ends, no_change, Patches, added_by, form_of, kept_at, net_at, numbers_in, opening_at, patched, reopened, reslotted, reslotted_by, rights_over, slots_in}
+use Rattle.shadow.specs.Steps.{CanPass, MakesPipe, Applies, AreApart, IsOne, TakesAll, TakesIn, blocks_by, description_after, inode_after, made_after, new_in, numbers_kept, opened_in, parents_in, process_after, rights_after}
 use Rattle.shadow.proofs.noting.EditCases.{applies}
 use Rattle.shadow.proofs.noting.InodeForms.{over_after, kept_same, still_before}
 use Rattle.shadow.proofs.noting.DescriptionForms.{moved_there, moved_over, lives_before, alive_over}
@@ -30,6 +30,7 @@ pub record Along (done : Kernel → Kernel) (Fit : Kernel → Type 0) (given : �
   pub count : (k : Kernel) → (done k).made ≡ k.made
   pub largest : (k : Kernel) → (done k).largest ≡ k.largest
   pub inodes : (k : Kernel) (n : ℕ) → Fit k → get (done k).inodes n ≡ patched (net_at p.inodes n).contents (get k.inodes n)
+  pub rights : (k : Kernel) (n : ℕ) → get (done k).rights n ≡ rights_over (kept_at p.rights n) (get k.rights n)
   pub descriptions : (k : Kernel) (d : ℕ) → get (done k).descriptions d ≡ reopened (opening_at p.openings d) (get k.descriptions d)
   pub processes : (k : Kernel) (pid : ℕ) → get (done k).processes pid ≡ reslotted (kept_at p.slots pid) (get k.processes pid)
   pub named : (n : ℕ) → given n ≡ (net_at p.inodes n).named
@@ -65,6 +66,7 @@ shows_pipe Same ends is o = absurd cc
 shows_pipe (Names fresh notes) ends is o = absurd cc
 shows_pipe (Bytes fresh bytes) ends is o = absurd cc
 shows_pipe (Piped fresh changes) ends is o = refl
+shows_pipe (As_fixed fixed) ends is o = absurd cc
 
 made_pair : (chosen : List ℕ) (e : Edit) (mid : Kernel) → WellFormed mid → Fits chosen mid e → (n : ℕ) (ends : ℕ × ℕ) → MakesPipe chosen e n ends → ArePair (applied chosen e mid).descriptions n ends.0 ends.1
 made_pair chosen (Make_pipe i pid f g) mid well fit n ends is =
@@ -88,6 +90,7 @@ along_step done Fit given gone Wrote p q chosen e one apart t a = record {
     | inl was ↦ pipes_keep_their_ends_lem.keeps chosen (done k) e fit.1 n ends.0 ends.1 (ap (mapped kind) (a.inodes k n fit.0) ∙ shows_pipe (net_at p.inodes n).contents ends was (get k.inodes n)) (a.pipes k n ends was well fit.0)
     | inr made ↦ made_pair chosen e (done k) (a.well k fit.0 well) fit.1 n ends made
   ];
+  rights = λ k n. (step k).rights n ∙ ap (rights_after e n) (a.rights k n) ∙ sym (t.rights n (get k.rights n));
   descriptions = λ k d. (step k).descriptions d ∙ ap (description_after chosen e d) (a.descriptions k d) ∙ sym (t.descriptions d (get k.descriptions d));
   processes = λ k pid. (step k).processes pid ∙ ap (process_after chosen e pid) (a.processes k pid) ∙ sym (t.processes pid (get k.processes pid));
   named = λ n. ap (λ m. m + times n (named chosen e)) (a.named n) ∙ sym (t.named n);
@@ -151,6 +154,7 @@ along_same done other Fit Fits' given given' gone gone' Wrote Wrote' p same fits
   count = λ k. ap (λ (k : Kernel). k.made) (same k) ∙ a.count k;
   largest = λ k. ap (λ (k : Kernel). k.largest) (same k) ∙ a.largest k;
   inodes = λ k n fit. ap (λ (k : Kernel). get k.inodes n) (same k) ∙ a.inodes k n (fits k fit);
+  rights = λ k n. ap (λ (k : Kernel). get k.rights n) (same k) ∙ a.rights k n;
   descriptions = λ k d. ap (λ (k : Kernel). get k.descriptions d) (same k) ∙ a.descriptions k d;
   processes = λ k pid. ap (λ (k : Kernel). get k.processes pid) (same k) ∙ a.processes k pid;
   named = λ n. is n ∙ a.named n;

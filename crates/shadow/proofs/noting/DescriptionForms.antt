@@ -58,6 +58,7 @@ pub moved_there : (chosen : List ℕ) (e : Edit) → IsOne e → MovedThere chos
 moved_there chosen e one = by_one (MovedThere chosen)
     (λ d x i mid f q place o is away same. absurd (not_still place same))
     (λ d x i mid f q place o is away same. absurd (not_still place same))
+    (λ d x fixed i mid f q place o is away same. absurd (not_still place same))
     (λ d x m mid f q place o is away same. absurd (not_still place same))
     (λ d x m mid f q place o is away same. absurd (not_still place same))
     (λ d x m mid f q place o is away same. absurd (not_still place same))
@@ -71,6 +72,7 @@ moved_there chosen e one = by_one (MovedThere chosen)
     (λ p count mid f q place o is away same. absurd (not_still place same))
     (λ p bytes mid f q place o is away same. absurd (not_still place same))
     (λ i pid s g mid f q place o is away same. pipe_moved q (new_in chosen (i + 1)) (new_in chosen (i + 2)) place _ _ o away same)
+    (λ m rights mid f q place o is away same. absurd (not_still place same))
     e one
 
 pub moved_over : (new old : Opening) (there : Bool) (opened : Bool) → is_new new ≡ (opened || is_new old) → IsOverDescription old there
@@ -98,6 +100,7 @@ pub lives_before : (chosen : List ℕ) (e : Edit) → IsOne e → LivesBefore ch
 lives_before chosen e one = by_one (LivesBefore chosen)
     (λ d x i mid f pid o is changed. absurd (changed refl))
     (λ d x i mid f pid o is changed. absurd (changed refl))
+    (λ d x fixed i mid f pid o is changed. absurd (changed refl))
     (λ d x m mid f pid o is changed. absurd (changed refl))
     (λ d x m mid f pid o is changed. absurd (changed refl))
     (λ d x m mid f pid o is changed. absurd (changed refl))
@@ -111,6 +114,7 @@ lives_before chosen e one = by_one (LivesBefore chosen)
     (λ p count mid f pid o is changed. absurd (changed refl))
     (λ p bytes mid f pid o is changed. absurd (changed refl))
     (λ i q s g mid f pid o is changed. slot_lives q mid f.slot.alive pid o is _ changed)
+    (λ m rights mid f pid o is changed. absurd (changed refl))
     e one
 
 pub alive_over : (new old : List (ℕ × Option ℕ)) (o : Option Process) → new ≢ [] → (old ≢ [] → is_some o ≡ true) → (old ≡ [] → reslotted_by new None ≢ None → is_some o ≡ true) → is_some o ≡ true

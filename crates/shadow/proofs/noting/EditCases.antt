@@ -4,18 +4,19 @@ use Rattle.std.proofs.Common.{◌≡◌, ℕ, ◌+◌, ◌==◌, Bool, true, fal
 use Rattle.std.specs.Ordering.{nat_cmp}
 use Rattle.std.proofs.lemmas.Bool.{cases_eq}
 use Rattle.model.specs.FiniteMap.{FinMap, get, insert, remove}
-use Rattle.model.specs.State.{Name, Kernel, Inode, File, Directory, Pipe, Process, Description, mapped, names_of_inode, file_of_inode, pipe_of_inode}
-use Rattle.model.specs.Changes.{Edit, Which, Mode, Make_directory, Make_file, Name_file, Unname_file, Unname_directory, Move, Put_bytes, Cut, Take, Append, Set_offset, Open_inode, Make_pipe, Share_slot, Clear_slot, New_process, End_process}
+use Rattle.model.specs.State.{Name, Kernel, Inode, File, Directory, Pipe, Fixed_content, Process, Rights, Description, mapped, names_of_inode, file_of_inode, pipe_of_inode}
+use Rattle.model.specs.Changes.{Edit, Which, Mode, Make_directory, Make_file, Make_fixed, Name_file, Unname_file, Unname_directory, Move, Put_bytes, Cut, Take, Append, Set_offset, Set_rights, Open_inode, Make_pipe, Share_slot, Clear_slot, New_process, End_process}
 use Rattle.model.specs.Changes.{Replaced, clear_name, number, applied, at_offset, at_start, or_new, set_inode, set_name, set_offset, sized, to_read, to_write, written, with_slot, without_slot}
 use Rattle.model.proofs.Laws.{get_same, get_other}
-use Rattle.shadow.specs.declared.change.Made.{Made as What}
-use Rattle.shadow.specs.declared.change.Made.TheVariants.{Directory as Dir_made, File as File_made}
+use Rattle.shadow.specs.declared.new_object.NewObject.{NewObject as What}
+use Rattle.shadow.specs.declared.new_object.NewObject.TheVariants.{Directory as Dir_made, File as File_made, Fixed as Fixed_made}
 use Rattle.shadow.specs.Steps.{Applies, IsFirst, IsLast, IsOne, made_at, name_noted, named_at, new_in, new_inode}
 
 -- what holds of each edit that may come today
 pub by_one : (P : Edit → Type 0)
     → ((d : ℕ) (x : Name) (i : ℕ) → P (Make_directory d x i))
     → ((d : ℕ) (x : Name) (i : ℕ) → P (Make_file d x i))
+    → ((d : ℕ) (x : Name) (fixed : Fixed_content) (i : ℕ) → P (Make_fixed d x fixed i))
     → ((d : ℕ) (x : Name) (n : ℕ) → P (Unname_directory d x n))
     → ((d : ℕ) (x : Name) (n : ℕ) → P (Name_file d x n))
     → ((d : ℕ) (x : Name) (n : ℕ) → P (Unname_file d x n))
@@ -29,31 +30,35 @@ pub by_one : (P : Edit → Type 0)
     → ((p count : ℕ) → P (Take p count))
     → ((p : ℕ) (bytes : List ℕ) → P (Append p bytes))
     → ((i pid f g : ℕ) → P (Make_pipe i pid f g))
+    → ((n : ℕ) (rights : Rights) → P (Set_rights n rights))
     → (e : Edit) → IsOne e → P e
-by_one P a b c l u m d e f g h t v w z (Make_directory p x i) one = a p x i
-by_one P a b c l u m d e f g h t v w z (Make_file p x i) one = b p x i
-by_one P a b c l u m d e f g h t v w z (Unname_directory p x n) one = c p x n
-by_one P a b c l u m d e f g h t v w z (Put_bytes n place bytes before) one = d n place bytes before
-by_one P a b c l u m d e f g h t v w z (Cut n before after) one = e n before after
-by_one P a b c l u m d e f g h t v w z (Open_inode i inode mode pid s) one = f i inode mode pid s
-by_one P a b c l u m d e f g h t v w z (Set_offset o place) one = g o place
-by_one P a b c l u m d e f g h t v w z (Clear_slot pid s pipes) one = h pid s pipes
-by_one P a b c l u m d e f g h t v w z (Name_file p x n) one = l p x n
-by_one P a b c l u m d e f g h t v w z (Unname_file p x n) one = u p x n
-by_one P a b c l u m d e f g h t v w z (Move p x q y n replaced) one = m p x q y n replaced
-by_one P a b c l u m d e f g h t v w z (Take p count) one = v p count
-by_one P a b c l u m d e f g h t v w z (Append p bytes) one = w p bytes
-by_one P a b c l u m d e f g h t v w z (Make_pipe i pid s r) one = z i pid s r
-by_one P a b c l u m d e f g h t v w z (Share_slot pid s o pipes) one = t pid s o pipes
-by_one P a b c l u m d e f g h t v w z (New_process child parent pipes) (inl one) = absurd one
-by_one P a b c l u m d e f g h t v w z (New_process child parent pipes) (inr one) = absurd one.1
-by_one P a b c l u m d e f g h t v w z (End_process pid pipes) (inl one) = absurd one
-by_one P a b c l u m d e f g h t v w z (End_process pid pipes) (inr one) = absurd one.1
+by_one P a b k c l u m d e f g h t v w z j (Make_directory p x i) one = a p x i
+by_one P a b k c l u m d e f g h t v w z j (Make_file p x i) one = b p x i
+by_one P a b k c l u m d e f g h t v w z j (Make_fixed p x fixed i) one = k p x fixed i
+by_one P a b k c l u m d e f g h t v w z j (Unname_directory p x n) one = c p x n
+by_one P a b k c l u m d e f g h t v w z j (Put_bytes n place bytes before) one = d n place bytes before
+by_one P a b k c l u m d e f g h t v w z j (Cut n before after) one = e n before after
+by_one P a b k c l u m d e f g h t v w z j (Open_inode i inode mode pid s) one = f i inode mode pid s
+by_one P a b k c l u m d e f g h t v w z j (Set_offset o place) one = g o place
+by_one P a b k c l u m d e f g h t v w z j (Clear_slot pid s pipes) one = h pid s pipes
+by_one P a b k c l u m d e f g h t v w z j (Name_file p x n) one = l p x n
+by_one P a b k c l u m d e f g h t v w z j (Unname_file p x n) one = u p x n
+by_one P a b k c l u m d e f g h t v w z j (Move p x q y n replaced) one = m p x q y n replaced
+by_one P a b k c l u m d e f g h t v w z j (Take p count) one = v p count
+by_one P a b k c l u m d e f g h t v w z j (Append p bytes) one = w p bytes
+by_one P a b k c l u m d e f g h t v w z j (Make_pipe i pid s r) one = z i pid s r
+by_one P a b k c l u m d e f g h t v w z j (Set_rights n rights) one = j n rights
+by_one P a b k c l u m d e f g h t v w z j (Share_slot pid s o pipes) one = t pid s o pipes
+by_one P a b k c l u m d e f g h t v w z j (New_process child parent pipes) (inl one) = absurd one
+by_one P a b k c l u m d e f g h t v w z j (New_process child parent pipes) (inr one) = absurd one.1
+by_one P a b k c l u m d e f g h t v w z j (End_process pid pipes) (inl one) = absurd one
+by_one P a b k c l u m d e f g h t v w z j (End_process pid pipes) (inr one) = absurd one.1
 
 -- what holds of each edit that may come first, and of each that may come last
 pub first_cases : (P : Edit → Type 0)
     → ((d : ℕ) (x : Name) (i : ℕ) → i ≡ 0 → P (Make_directory d x i))
     → ((d : ℕ) (x : Name) (i : ℕ) → i ≡ 0 → P (Make_file d x i))
+    → ((d : ℕ) (x : Name) (fixed : Fixed_content) (i : ℕ) → i ≡ 0 → P (Make_fixed d x fixed i))
     → ((d : ℕ) (x : Name) (n : ℕ) → P (Unname_directory d x n))
     → ((d : ℕ) (x : Name) (n : ℕ) → P (Name_file d x n))
     → ((d : ℕ) (x : Name) (n : ℕ) → P (Unname_file d x n))
@@ -63,24 +68,27 @@ pub first_cases : (P : Edit → Type 0)
     → ((p count : ℕ) → P (Take p count))
     → ((p : ℕ) (bytes : List ℕ) → P (Append p bytes))
     → ((i pid f g : ℕ) → i ≡ 0 → P (Make_pipe i pid f g))
+    → ((n : ℕ) (rights : Rights) → P (Set_rights n rights))
     → (e : Edit) → IsFirst e → P e
-first_cases P a b c l u m d e v w z (Make_directory p x i) first = a p x i first
-first_cases P a b c l u m d e v w z (Make_file p x i) first = b p x i first
-first_cases P a b c l u m d e v w z (Unname_directory p x n) first = c p x n
-first_cases P a b c l u m d e v w z (Put_bytes n place bytes before) first = d n place bytes before
-first_cases P a b c l u m d e v w z (Cut n before after) first = e n before after
-first_cases P a b c l u m d e v w z (Open_inode i inode mode pid s) first = absurd first
-first_cases P a b c l u m d e v w z (Set_offset o place) first = absurd first
-first_cases P a b c l u m d e v w z (Clear_slot pid s pipes) first = absurd first
-first_cases P a b c l u m d e v w z (Name_file p x n) first = l p x n
-first_cases P a b c l u m d e v w z (Unname_file p x n) first = u p x n
-first_cases P a b c l u m d e v w z (Move p x q y n replaced) first = m p x q y n replaced
-first_cases P a b c l u m d e v w z (Take p count) first = v p count
-first_cases P a b c l u m d e v w z (Append p bytes) first = w p bytes
-first_cases P a b c l u m d e v w z (Make_pipe i pid s t) first = z i pid s t first.0
-first_cases P a b c l u m d e v w z (Share_slot pid s o pipes) first = absurd first
-first_cases P a b c l u m d e v w z (New_process child parent pipes) first = absurd first
-first_cases P a b c l u m d e v w z (End_process pid pipes) first = absurd first
+first_cases P a b k c l u m d e v w z j (Make_directory p x i) first = a p x i first
+first_cases P a b k c l u m d e v w z j (Make_file p x i) first = b p x i first
+first_cases P a b k c l u m d e v w z j (Make_fixed p x fixed i) first = k p x fixed i first
+first_cases P a b k c l u m d e v w z j (Unname_directory p x n) first = c p x n
+first_cases P a b k c l u m d e v w z j (Put_bytes n place bytes before) first = d n place bytes before
+first_cases P a b k c l u m d e v w z j (Cut n before after) first = e n before after
+first_cases P a b k c l u m d e v w z j (Open_inode i inode mode pid s) first = absurd first
+first_cases P a b k c l u m d e v w z j (Set_offset o place) first = absurd first
+first_cases P a b k c l u m d e v w z j (Clear_slot pid s pipes) first = absurd first
+first_cases P a b k c l u m d e v w z j (Name_file p x n) first = l p x n
+first_cases P a b k c l u m d e v w z j (Unname_file p x n) first = u p x n
+first_cases P a b k c l u m d e v w z j (Move p x q y n replaced) first = m p x q y n replaced
+first_cases P a b k c l u m d e v w z j (Take p count) first = v p count
+first_cases P a b k c l u m d e v w z j (Append p bytes) first = w p bytes
+first_cases P a b k c l u m d e v w z j (Make_pipe i pid s t) first = z i pid s t first.0
+first_cases P a b k c l u m d e v w z j (Set_rights n rights) first = j n rights
+first_cases P a b k c l u m d e v w z j (Share_slot pid s o pipes) first = absurd first
+first_cases P a b k c l u m d e v w z j (New_process child parent pipes) first = absurd first
+first_cases P a b k c l u m d e v w z j (End_process pid pipes) first = absurd first
 
 pub last_cases : (m : ℕ) (P : Edit → Type 0)
     → ((i : ℕ) (inode : Which) (mode : Mode) (pid f : ℕ) → i ≡ m → P (Open_inode i inode mode pid f))
@@ -93,6 +101,7 @@ last_cases k P f g h t (Set_offset m place) last = g m place
 last_cases k P f g h t (Clear_slot pid s pipes) last = h pid s pipes
 last_cases k P f g h t (Make_directory p x i) last = absurd last
 last_cases k P f g h t (Make_file p x i) last = absurd last
+last_cases k P f g h t (Make_fixed p x fixed i) last = absurd last
 last_cases k P f g h t (Unname_directory p x n) last = absurd last
 last_cases k P f g h t (Put_bytes n place bytes before) last = absurd last
 last_cases k P f g h t (Cut n before after) last = absurd last
@@ -102,6 +111,7 @@ last_cases k P f g h t (Move p x q y n replaced) last = absurd last
 last_cases k P f g h t (Take p count) last = absurd last
 last_cases k P f g h t (Append p bytes) last = absurd last
 last_cases k P f g h t (Make_pipe i pid s r) last = absurd last
+last_cases k P f g h t (Set_rights n rights) last = absurd last
 last_cases k P f g h t (Share_slot pid s o pipes) last = t pid s o pipes
 last_cases k P f g h t (New_process child parent pipes) last = absurd last
 last_cases k P f g h t (End_process pid pipes) last = absurd last
@@ -135,6 +145,7 @@ offset_applies chosen d place k None is = record {
   made = refl;
   largest = refl;
   inodes = λ n. refl;
+  rights = λ n. refl;
   descriptions = same;
   processes = λ pid. refl;
 }
@@ -149,6 +160,7 @@ offset_applies chosen d place k (Some old) is = record {
   made = refl;
   largest = refl;
   inodes = λ n. refl;
+  rights = λ n. refl;
   descriptions = moved;
   processes = λ pid. refl;
 }
@@ -186,6 +198,7 @@ applies chosen e one k = by_one (λ e. Applies chosen e k (applied chosen e k))
       made = refl;
       largest = refl;
       inodes = made_applies Dir_made d x (new_in chosen i) k;
+      rights = λ n. refl;
       descriptions = λ d. refl;
       processes = λ pid. refl;
     })
@@ -194,6 +207,16 @@ applies chosen e one k = by_one (λ e. Applies chosen e k (applied chosen e k))
       made = refl;
       largest = refl;
       inodes = made_applies File_made d x (new_in chosen i) k;
+      rights = λ n. refl;
+      descriptions = λ d. refl;
+      processes = λ pid. refl;
+    })
+    (λ d x fixed i. record {
+      root = refl;
+      made = refl;
+      largest = refl;
+      inodes = made_applies (Fixed_made fixed) d x (new_in chosen i) k;
+      rights = λ n. refl;
       descriptions = λ d. refl;
       processes = λ pid. refl;
     })
@@ -202,6 +225,7 @@ applies chosen e one k = by_one (λ e. Applies chosen e k (applied chosen e k))
       made = refl;
       largest = refl;
       inodes = λ q. changed_at k.inodes d q (λ o. Directory (remove (names_of_inode o) x));
+      rights = λ n. refl;
       descriptions = λ d. refl;
       processes = λ pid. refl;
     })
@@ -210,6 +234,7 @@ applies chosen e one k = by_one (λ e. Applies chosen e k (applied chosen e k))
       made = refl;
       largest = refl;
       inodes = λ q. changed_at k.inodes d q (λ o. Directory (insert (names_of_inode o) x n));
+      rights = λ n. refl;
       descriptions = λ d. refl;
       processes = λ pid. refl;
     })
@@ -218,6 +243,7 @@ applies chosen e one k = by_one (λ e. Applies chosen e k (applied chosen e k))
       made = refl;
       largest = refl;
       inodes = λ q. changed_at k.inodes d q (λ o. Directory (remove (names_of_inode o) x));
+      rights = λ n. refl;
       descriptions = λ d. refl;
       processes = λ pid. refl;
     })
@@ -226,6 +252,7 @@ applies chosen e one k = by_one (λ e. Applies chosen e k (applied chosen e k))
       made = refl;
       largest = refl;
       inodes = moved_applies d x e y n k;
+      rights = λ n. refl;
       descriptions = λ d. refl;
       processes = λ pid. refl;
     })
@@ -234,6 +261,7 @@ applies chosen e one k = by_one (λ e. Applies chosen e k (applied chosen e k))
       made = refl;
       largest = refl;
       inodes = λ q. changed_at k.inodes n q (λ o. File (written (file_of_inode o) place bytes));
+      rights = λ n. refl;
       descriptions = λ d. refl;
       processes = λ pid. refl;
     })
@@ -242,6 +270,7 @@ applies chosen e one k = by_one (λ e. Applies chosen e k (applied chosen e k))
       made = refl;
       largest = refl;
       inodes = λ q. changed_at k.inodes n q (λ o. File (sized after (file_of_inode o)));
+      rights = λ n. refl;
       descriptions = λ d. refl;
       processes = λ pid. refl;
     })
@@ -250,6 +279,7 @@ applies chosen e one k = by_one (λ e. Applies chosen e k (applied chosen e k))
       made = refl;
       largest = refl;
       inodes = λ n. refl;
+      rights = λ n. refl;
       descriptions = λ d. put_at k.descriptions (new_in chosen i) d (at_start (number chosen inode) mode);
       processes = λ q. changed_at k.processes pid q (λ o. with_slot f (new_in chosen i) (or_new o));
     })
@@ -259,6 +289,7 @@ applies chosen e one k = by_one (λ e. Applies chosen e k (applied chosen e k))
       made = refl;
       largest = refl;
       inodes = λ n. refl;
+      rights = λ n. refl;
       descriptions = λ d. refl;
       processes = λ q. changed_at k.processes pid q (λ o. without_slot f (or_new o));
     })
@@ -267,6 +298,7 @@ applies chosen e one k = by_one (λ e. Applies chosen e k (applied chosen e k))
       made = refl;
       largest = refl;
       inodes = λ n. refl;
+      rights = λ n. refl;
       descriptions = λ e. refl;
       processes = λ q. changed_at k.processes pid q (λ o. with_slot f d (or_new o));
     })
@@ -275,6 +307,7 @@ applies chosen e one k = by_one (λ e. Applies chosen e k (applied chosen e k))
       made = refl;
       largest = refl;
       inodes = λ q. changed_at k.inodes p q (λ o. Pipe (drop count (pipe_of_inode o)));
+      rights = λ n. refl;
       descriptions = λ d. refl;
       processes = λ pid. refl;
     })
@@ -283,6 +316,7 @@ applies chosen e one k = by_one (λ e. Applies chosen e k (applied chosen e k))
       made = refl;
       largest = refl;
       inodes = λ q. changed_at k.inodes p q (λ o. Pipe (pipe_of_inode o ++ bytes));
+      rights = λ n. refl;
       descriptions = λ d. refl;
       processes = λ pid. refl;
     })
@@ -291,7 +325,17 @@ applies chosen e one k = by_one (λ e. Applies chosen e k (applied chosen e k))
       made = refl;
       largest = refl;
       inodes = λ q. put_at k.inodes (new_in chosen i) q (Pipe []);
+      rights = λ n. refl;
       descriptions = λ d. two_described k.descriptions (new_in chosen (i + 1)) (new_in chosen (i + 2)) d (at_start (new_in chosen i) to_read) (at_start (new_in chosen i) to_write);
       processes = two_slotted k.processes pid f g (new_in chosen (i + 1)) (new_in chosen (i + 2));
+    })
+    (λ n rights. record {
+      root = refl;
+      made = refl;
+      largest = refl;
+      inodes = λ q. refl;
+      rights = λ q. put_at k.rights n q rights;
+      descriptions = λ d. refl;
+      processes = λ pid. refl;
     })
     e one

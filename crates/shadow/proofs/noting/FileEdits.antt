@@ -92,15 +92,15 @@ cut_taken file before after n s t r =
     by_test false = refl
 
 pub put_takes : (file place : ℕ) (bytes : List ℕ) (before : ℕ) (old new : Patches) → At file (IsFiled (bytes_written place bytes) (blocks place (length bytes))) old.inodes new.inodes
-    → new.openings ≡ old.openings → new.slots ≡ old.slots → new.unnamed_inodes ≡ old.unnamed_inodes → TakesIn [] (Put_bytes file place bytes before) old new
-put_takes file place bytes before old new at openings slots unnamed_inodes =
+    → new.rights ≡ old.rights → new.openings ≡ old.openings → new.slots ≡ old.slots → new.unnamed_inodes ≡ old.unnamed_inodes → TakesIn [] (Put_bytes file place bytes before) old new
+put_takes file place bytes before old new at rights openings slots unnamed_inodes =
     takes_first [] (Put_bytes file place bytes before) old new
     (λ n. put_taken file place bytes before n (net_at old.inodes n) (net_at new.inodes n) (filing_at file (bytes_written place bytes) (blocks place (length bytes)) old.inodes new.inodes at n))
-    openings slots (unnamed_inodes ∙ sym (append-nil old.unnamed_inodes)) (λ d o. refl) (λ pid o. refl) refl
+    rights openings slots (unnamed_inodes ∙ sym (append-nil old.unnamed_inodes)) (λ n o. refl) (λ d o. refl) (λ pid o. refl) refl
 
 pub cut_takes : (file before after : ℕ) (old new : Patches) → At file (IsFiled (bytes_cut after) []) old.inodes new.inodes
-    → new.openings ≡ old.openings → new.slots ≡ old.slots → new.unnamed_inodes ≡ old.unnamed_inodes → TakesIn [] (Cut file before after) old new
-cut_takes file before after old new at openings slots unnamed_inodes =
+    → new.rights ≡ old.rights → new.openings ≡ old.openings → new.slots ≡ old.slots → new.unnamed_inodes ≡ old.unnamed_inodes → TakesIn [] (Cut file before after) old new
+cut_takes file before after old new at rights openings slots unnamed_inodes =
     takes_first [] (Cut file before after) old new
     (λ n. cut_taken file before after n (net_at old.inodes n) (net_at new.inodes n) (filing_at file (bytes_cut after) [] old.inodes new.inodes at n))
-    openings slots (unnamed_inodes ∙ sym (append-nil old.unnamed_inodes)) (λ d o. refl) (λ pid o. refl) refl
+    rights openings slots (unnamed_inodes ∙ sym (append-nil old.unnamed_inodes)) (λ n o. refl) (λ d o. refl) (λ pid o. refl) refl

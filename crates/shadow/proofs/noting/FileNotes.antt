@@ -4,8 +4,8 @@ use Rattle.std.specs.List.{Contains}
 use Rattle.std.specs.Prelude.{⊤}
 use Rattle.model.specs.State.{Inode}
 use Rattle.shadow.specs.declared.change.Contents.{Contents}
-use Rattle.shadow.specs.declared.change.Contents.TheVariants.{Same, Names, Bytes, Pipe as Piped}
-use Rattle.shadow.specs.Patches.{AllReach, new_ends, of_pipe, Form, Net, added_by, form_of, no_change, numbers_in, of_bytes, of_names, patched}
+use Rattle.shadow.specs.declared.change.Contents.TheVariants.{Same, Names, Bytes, Pipe as Piped, Fixed as As_fixed}
+use Rattle.shadow.specs.Patches.{AllReach, new_ends, of_pipe, of_fixed, Form, Net, added_by, form_of, no_change, numbers_in, of_bytes, of_names, patched}
 use Rattle.shadow.specs.Notes.{IsFiled}
 use Rattle.shadow.specs.Steps.{filed}
 
@@ -18,24 +18,28 @@ filed_is no_change = tt
 filed_is (of_bytes fresh) = tt
 filed_is (of_names fresh) = tt
 filed_is (of_pipe fresh) = tt
+filed_is of_fixed = tt
 
 adds_none : (c : Contents) → is_filed (form_of c) → added_by c ≡ 0
 adds_none Same h = absurd h
 adds_none (Names fresh notes) h = absurd h
 adds_none (Bytes fresh bytes) h = refl
 adds_none (Piped fresh changes) h = absurd h
+adds_none (As_fixed fixed) h = absurd h
 
 ends_none : (c : Contents) → is_filed (form_of c) → new_ends c ≡ None
 ends_none Same h = absurd h
 ends_none (Names fresh notes) h = absurd h
 ends_none (Bytes fresh bytes) h = refl
 ends_none (Piped fresh changes) h = absurd h
+ends_none (As_fixed fixed) h = absurd h
 
 all_reach : (c : Contents) → is_filed (form_of c) → (o : Option Inode) → AllReach c o
 all_reach Same h o = absurd h
 all_reach (Names fresh notes) h o = absurd h
 all_reach (Bytes fresh bytes) h o = tt
 all_reach (Piped fresh changes) h o = absurd h
+all_reach (As_fixed fixed) h o = absurd h
 
 pub filed_on : (f : Option Inode → Option Inode) (more : List ℕ) (old : Net) (contents : Contents)
     → ((o : Option Inode) → patched contents o ≡ f (patched old.contents o)) → form_of contents ≡ filed (form_of old.contents)

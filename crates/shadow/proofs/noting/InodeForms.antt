@@ -7,13 +7,16 @@ use Rattle.model.specs.Changes.{Edit}
 use Rattle.call_laws.specs.Fits.{Fits}
 use Rattle.freeing_laws.specs.Counts.{times}
 use Rattle.shadow.specs.declared.change.Contents.{Contents}
-use Rattle.shadow.specs.declared.change.Contents.TheVariants.{Same, Names, Bytes, Pipe as Piped}
+use Rattle.shadow.specs.declared.change.Contents.TheVariants.{Same, Names, Bytes, Pipe as Piped, Fixed as As_fixed}
 use Rattle.shadow.specs.declared.change.Made.{Made as What}
-use Rattle.shadow.specs.declared.change.Made.TheVariants.{Directory as Dir_made, File as File_made, Pipe as Pipe_made}
+use Rattle.shadow.specs.declared.change.Made.TheVariants.{Directory as Dir_made, File as File_made, Pipe as Pipe_made, Fixed as Fixed_made}
+use Rattle.shadow.specs.declared.new_object.NewObject.{NewObject}
+use Rattle.shadow.specs.declared.new_object.NewObject.TheVariants.{Directory as New_directory, File as New_file, Fixed as New_fixed}
 use Rattle.shadow.specs.Agrees.{IsOver}
-use Rattle.shadow.specs.Patches.{of_pipe, Form, no_change, of_names, of_bytes, form_of, numbers_in, patched}
-use Rattle.shadow.specs.Steps.{piped, AreApart, IsOne, filed, form_after, listed, made_after, new_form, new_in, numbers_kept, parents_in}
+use Rattle.shadow.specs.Patches.{of_pipe, of_fixed, Form, no_change, of_names, of_bytes, form_of, numbers_in, patched}
+use Rattle.shadow.specs.Steps.{piped, AreApart, IsOne, filed, form_after, listed, made_after, made_of, new_form, new_in, numbers_kept, parents_in}
 use Rattle.shadow.proofs.noting.EditCases.{by_one}
+use Rattle.shadow.proofs.shared.FixedKinds.{no_directory, no_file, no_pipe}
 
 -- a directory's changes stay a directory's, and a file's a file's
 listed_over : (c : Contents) (o : Option Inode) (made : Option What) → mapped kind (patched c o) ≡ Some A_directory → IsOver (mapped kind o) made (form_of c) → IsOver (mapped kind o) made (listed (form_of c))
@@ -21,6 +24,8 @@ listed_over Same o None is over = (refl, is)
 listed_over Same o (Some Dir_made) is over = absurd cc
 listed_over Same o (Some File_made) is over = absurd cc
 listed_over Same o (Some Pipe_made) is over = absurd cc
+listed_over Same o (Some Fixed_made) is over = absurd cc
+listed_over (As_fixed fixed) o made is over = no_directory fixed is
 listed_over (Names fresh notes) o made is over = over
 listed_over (Bytes fresh bytes) o made is over = absurd cc
 listed_over (Piped fresh changes) o made is over = absurd cc
@@ -30,6 +35,8 @@ filed_over Same o None is over = (refl, is)
 filed_over Same o (Some Dir_made) is over = absurd cc
 filed_over Same o (Some File_made) is over = absurd cc
 filed_over Same o (Some Pipe_made) is over = absurd cc
+filed_over Same o (Some Fixed_made) is over = absurd cc
+filed_over (As_fixed fixed) o made is over = no_file fixed is
 filed_over (Bytes fresh bytes) o made is over = over
 filed_over (Names fresh notes) o made is over = absurd cc
 filed_over (Piped fresh changes) o made is over = absurd cc
@@ -39,14 +46,16 @@ piped_over Same o None is over = (refl, is)
 piped_over Same o (Some Dir_made) is over = absurd cc
 piped_over Same o (Some File_made) is over = absurd cc
 piped_over Same o (Some Pipe_made) is over = absurd cc
+piped_over Same o (Some Fixed_made) is over = absurd cc
+piped_over (As_fixed fixed) o made is over = no_pipe fixed is
 piped_over (Piped fresh changes) o made is over = over
 piped_over (Names fresh notes) o made is over = absurd cc
 piped_over (Bytes fresh bytes) o made is over = absurd cc
 
-over_new : (kind : Option Kind) (what : What) → IsOver kind (Some what) (new_form what)
-over_new kind Dir_made = refl
-over_new kind File_made = refl
-over_new kind Pipe_made = refl
+over_new : (kind : Option Kind) (what : NewObject) → IsOver kind (Some (made_of what)) (new_form what)
+over_new kind New_directory = refl
+over_new kind New_file = refl
+over_new kind (New_fixed fixed) = refl
 
 -- nothing was written into a directory, or where nothing stands
 unwritten : (c : Contents) (o : Option Inode) → mapped kind (patched c o) ≡ Some A_directory → [] ≡ numbers_in c
@@ -54,12 +63,14 @@ unwritten Same o is = refl
 unwritten (Names fresh notes) o is = refl
 unwritten (Bytes fresh bytes) o is = absurd cc
 unwritten (Piped fresh changes) o is = absurd cc
+unwritten (As_fixed fixed) o is = refl
 
 unwritten_none : (c : Contents) (o : Option Inode) → patched c o ≡ None → [] ≡ numbers_in c
 unwritten_none Same o is = refl
 unwritten_none (Names fresh notes) o is = refl
 unwritten_none (Bytes fresh bytes) o is = absurd cc
 unwritten_none (Piped fresh changes) o is = absurd cc
+unwritten_none (As_fixed fixed) o is = refl
 
 -- what an edit finds at a number
 found_kind : (mid : Kernel) (n m : ℕ) (c : Contents) (o : Option Inode) (what : Kind) → get mid.inodes n ≡ patched c o → (n == m) ≡ true → kind_of mid m ≡ Some what → mapped kind (patched c o) ≡ Some what
@@ -69,12 +80,12 @@ abbrev OverAfter : List ℕ → Edit → Type 0
 OverAfter chosen e = AreApart chosen e → (mid : Kernel) → Fits chosen mid e → (n : ℕ) (o : Option Inode) (made : Option What) (c : Contents) → get mid.inodes n ≡ patched c o
     → IsOver (mapped kind o) made (form_of c) → IsOver (mapped kind o) (made_after chosen e n made) (form_after chosen e n (form_of c))
 
-made_over : (what : What) (d m : ℕ) → m ≢ d → (mid : Kernel) → kind_of mid d ≡ Some A_directory → (n : ℕ) (o : Option Inode) (made : Option What) (c : Contents) → get mid.inodes n ≡ patched c o
+made_over : (what : NewObject) (d m : ℕ) → m ≢ d → (mid : Kernel) → kind_of mid d ≡ Some A_directory → (n : ℕ) (o : Option Inode) (made : Option What) (c : Contents) → get mid.inodes n ≡ patched c o
     → IsOver (mapped kind o) made (form_of c)
-    → IsOver (mapped kind o) (cond (n == m) (Some what) made) (cond (n == d) (listed (cond (n == m) (new_form what) (form_of c))) (cond (n == m) (new_form what) (form_of c)))
+    → IsOver (mapped kind o) (cond (n == m) (Some (made_of what)) made) (cond (n == d) (listed (cond (n == m) (new_form what) (form_of c))) (cond (n == m) (new_form what) (form_of c)))
 made_over what d m apart mid parent n o made c is over = by_tests (n == d) (n == m) refl refl
   where
-    by_tests : (b e : Bool) → (n == d) ≡ b → (n == m) ≡ e → IsOver (mapped kind o) (cond e (Some what) made) (cond b (listed (cond e (new_form what) (form_of c))) (cond e (new_form what) (form_of c)))
+    by_tests : (b e : Bool) → (n == d) ≡ b → (n == m) ≡ e → IsOver (mapped kind o) (cond e (Some (made_of what)) made) (cond b (listed (cond e (new_form what) (form_of c))) (cond e (new_form what) (form_of c)))
     by_tests true true h i = absurd (apart (sym (eqb-true n m i) ∙ eqb-true n d h))
     by_tests true false h i = listed_over c o made (found_kind mid n d c o A_directory is h parent) over
     by_tests false true h i = over_new (mapped kind o) what
@@ -101,6 +112,7 @@ listed_again no_change = refl
 listed_again (of_names fresh) = refl
 listed_again (of_bytes fresh) = refl
 listed_again (of_pipe fresh) = refl
+listed_again of_fixed = refl
 
 piped_at : (m : ℕ) (mid : Kernel) → kind_of mid m ≡ Some A_pipe → (n : ℕ) (o : Option Inode) (made : Option What) (c : Contents) → get mid.inodes n ≡ patched c o
     → IsOver (mapped kind o) made (form_of c) → IsOver (mapped kind o) made (cond (n == m) (piped (form_of c)) (form_of c))
@@ -129,8 +141,9 @@ moved_listed d e mid from onto n o made c is over = by_tests (n == d) (n == e) r
 
 pub over_after : (chosen : List ℕ) (e : Edit) → IsOne e → OverAfter chosen e
 over_after chosen e one = by_one (OverAfter chosen)
-    (λ d x i apart mid f. made_over Dir_made d (new_in chosen i) apart mid f.0.parent.directory)
-    (λ d x i apart mid f. made_over File_made d (new_in chosen i) apart mid f.0.parent.directory)
+    (λ d x i apart mid f. made_over New_directory d (new_in chosen i) apart mid f.0.parent.directory)
+    (λ d x i apart mid f. made_over New_file d (new_in chosen i) apart mid f.0.parent.directory)
+    (λ d x fixed i apart mid f. made_over (New_fixed fixed) d (new_in chosen i) apart mid f.0.parent.directory)
     (λ d x m apart mid f. listed_at d mid f.0.parent.directory)
     (λ d x m apart mid f. listed_at d mid f.0.parent.directory)
     (λ d x m apart mid f. listed_at d mid f.parent.directory)
@@ -144,6 +157,7 @@ over_after chosen e one = by_one (OverAfter chosen)
     (λ p count apart mid f. piped_at p mid f.0)
     (λ p bytes apart mid f. piped_at p mid f.0)
     (λ i pid s g apart mid f n o made c is over. pipe_made (new_in chosen i) n (mapped kind o) made (form_of c) over)
+    (λ m rights apart mid f n o made c is over. over)
     e one
 
 -- what was written before an edit is kept
@@ -180,6 +194,7 @@ pub kept_same : (chosen : List ℕ) (e : Edit) → IsOne e → KeptSame chosen e
 kept_same chosen e one = by_one (KeptSame chosen)
     (λ d x i mid f. made_kept d (new_in chosen i) mid f.0.parent.directory f.1.inode)
     (λ d x i mid f. made_kept d (new_in chosen i) mid f.0.parent.directory f.1.inode)
+    (λ d x fixed i mid f. made_kept d (new_in chosen i) mid f.0.parent.directory f.1.inode)
     (λ d x m mid f. listed_kept d mid f.0.parent.directory)
     (λ d x m mid f. listed_kept d mid f.0.parent.directory)
     (λ d x m mid f. listed_kept d mid f.parent.directory)
@@ -193,6 +208,7 @@ kept_same chosen e one = by_one (KeptSame chosen)
     (λ p count mid f n o c is. refl)
     (λ p bytes mid f n o c is. refl)
     (λ i pid s g mid f. new_kept (new_in chosen i) mid f.pipe.inode)
+    (λ m rights mid f n o c is. refl)
     e one
 
 -- what has changes after an edit, or gets a name by it, had changes before
@@ -201,23 +217,26 @@ listed_some no_change e = absurd cc
 listed_some (of_names fresh) e = absurd cc
 listed_some (of_bytes fresh) e = absurd cc
 listed_some (of_pipe fresh) e = absurd cc
+listed_some of_fixed e = absurd cc
 
 filed_some : (form : Form) → filed form ≢ no_change
 filed_some no_change e = absurd cc
 filed_some (of_names fresh) e = absurd cc
 filed_some (of_bytes fresh) e = absurd cc
 filed_some (of_pipe fresh) e = absurd cc
+filed_some of_fixed e = absurd cc
 
 piped_some : (form : Form) → piped form ≢ no_change
 piped_some no_change e = absurd cc
 piped_some (of_names fresh) e = absurd cc
 piped_some (of_bytes fresh) e = absurd cc
 piped_some (of_pipe fresh) e = absurd cc
+piped_some of_fixed e = absurd cc
 
-made_some : (what : What) → new_form what ≢ no_change
-made_some Dir_made e = absurd cc
-made_some File_made e = absurd cc
-made_some Pipe_made e = absurd cc
+made_some : (what : NewObject) → new_form what ≢ no_change
+made_some New_directory e = absurd cc
+made_some New_file e = absurd cc
+made_some (New_fixed fixed) e = absurd cc
 
 no_parent : (n d : ℕ) → (n == d) ≡ false → times n (d ∷ []) ≡ 0
 no_parent n d h = ap (λ b. 0 + cond b 1 0) (ne_eqb d n (λ e. false≢true (sym h ∙ eq-eqb n d (sym e))))
@@ -232,7 +251,7 @@ listed_before d n form none = by_test (n == d) refl none
 abbrev StillBefore : List ℕ → Edit → Type 0
 StillBefore chosen e = (n : ℕ) (form : Form) → form_after chosen e n form ≡ no_change → (form ≡ no_change) × (times n (parents_in e) ≡ 0)
 
-made_before : (what : What) (d m n : ℕ) (form : Form) → cond (n == d) (listed (cond (n == m) (new_form what) form)) (cond (n == m) (new_form what) form) ≡ no_change → (form ≡ no_change) × (times n (d ∷ []) ≡ 0)
+made_before : (what : NewObject) (d m n : ℕ) (form : Form) → cond (n == d) (listed (cond (n == m) (new_form what) form)) (cond (n == m) (new_form what) form) ≡ no_change → (form ≡ no_change) × (times n (d ∷ []) ≡ 0)
 made_before what d m n form none =
     let outer = listed_before d n (cond (n == m) (new_form what) form) none in
     (by_test (n == m) outer.0, no_parent n d outer.1)
@@ -257,8 +276,9 @@ changed_before m n new form some none = by_test (n == m) none
 
 pub still_before : (chosen : List ℕ) (e : Edit) → IsOne e → StillBefore chosen e
 still_before chosen e one = by_one (StillBefore chosen)
-    (λ d x i. made_before Dir_made d (new_in chosen i))
-    (λ d x i. made_before File_made d (new_in chosen i))
+    (λ d x i. made_before New_directory d (new_in chosen i))
+    (λ d x i. made_before New_file d (new_in chosen i))
+    (λ d x fixed i. made_before (New_fixed fixed) d (new_in chosen i))
     (λ d x m n form none. ((listed_before d n form none).0, refl))
     (λ d x m n form none. ((listed_before d n form none).0, no_parent n d (listed_before d n form none).1))
     (λ d x m n form none. ((listed_before d n form none).0, refl))
@@ -272,4 +292,5 @@ still_before chosen e one = by_one (StillBefore chosen)
     (λ p count n form none. changed_before p n (piped form) form (piped_some form) none)
     (λ p bytes n form none. changed_before p n (piped form) form (piped_some form) none)
     (λ i pid s g n form none. changed_before (new_in chosen i) n (of_pipe true) form (λ e. absurd cc) none)
+    (λ m rights n form none. (none, refl))
     e one

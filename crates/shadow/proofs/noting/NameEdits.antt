@@ -5,16 +5,18 @@ use Rattle.model.specs.State.{Name, Inode}
 use Rattle.model.specs.Changes.{Move, Name_file, Unname_file, Replaced, inode_replaced}
 use Rattle.freeing_laws.specs.Counts.{named, times, unnamed}
 use Rattle.shadow.specs.declared.change.Made.{Made as What}
-use Rattle.shadow.specs.declared.change.Made.TheVariants.{Directory as A_directory, File as A_file, Pipe as A_pipe}
+use Rattle.shadow.specs.declared.change.Made.TheVariants.{Directory as A_directory, File as A_file, Pipe as A_pipe, Fixed as A_fixed}
+use Rattle.shadow.specs.declared.new_object.NewObject.{NewObject}
+use Rattle.shadow.specs.declared.new_object.NewObject.TheVariants.{Directory as New_directory, File as New_file, Fixed as New_fixed}
 use Rattle.shadow.specs.Patches.{AllReach, new_ends, Net, Patches, added_by, form_of, net_at, numbers_in, patched}
 use Rattle.shadow.specs.Notes.{AreNamed, At, IsGiven, IsMade, IsNamed, IsUnnamed, room_for}
-use Rattle.shadow.specs.Steps.{TakesIn, made_at, made_form, making, named_at, listed_at, kept_beside, unnaming}
+use Rattle.shadow.specs.Steps.{TakesIn, made_at, made_form, made_of, making, named_at, listed_at, kept_beside, unnaming}
 use Rattle.shadow.proofs.noting.InodeNotes.{Changes, counted_here, counted_elsewhere, as_written, Taken, no_ends, takes_first}
 
 -- A new object with its name, of whatever kind.
-record Making (what : What) (d num : ℕ) (x : Name) (n : ℕ) (old new : Net) : Type 0 where
+record Making (what : NewObject) (d num : ℕ) (x : Name) (n : ℕ) (old new : Net) : Type 0 where
   contents : (o : Option Inode) → patched new.contents o ≡ made_at what d x num n (patched old.contents o)
-  made : new.made ≡ cond (n == num) (Some what) old.made
+  made : new.made ≡ cond (n == num) (Some (made_of what)) old.made
   promised : new.promised ≡ old.promised + times n (d ∷ [])
   named : new.named ≡ old.named + times n (num ∷ [])
   unnamed : new.unnamed ≡ old.unnamed
@@ -24,7 +26,7 @@ record Making (what : What) (d num : ℕ) (x : Name) (n : ℕ) (old new : Net) :
   added : added_by new.contents ≤ added_by old.contents + times n (d ∷ [])
   written : numbers_in new.contents ≡ (if (n == d) || (n == num) then [] else numbers_in old.contents)
 
-making_parent : (what : What) (d num : ℕ) (x : Name) (n : ℕ) (s t : Net) → n ≡ d → n ≢ num → IsNamed x (Some num) s t → Making what d num x n s t
+making_parent : (what : NewObject) (d num : ℕ) (x : Name) (n : ℕ) (s t : Net) → n ≡ d → n ≢ num → IsNamed x (Some num) s t → Making what d num x n s t
 making_parent what d num x n s t here away r =
     let yes : (n == d) ≡ true = eq-eqb n d here in
     let no : (n == num) ≡ false = ne_eqb n num away in
@@ -46,7 +48,7 @@ making_parent what d num x n s t here away r =
       written = rw yes r.numbers;
     }
 
-making_object : (what : What) (d num : ℕ) (x : Name) (n : ℕ) (s t : Net) → n ≢ d → n ≡ num → IsMade what s t → Making what d num x n s t
+making_object : (what : NewObject) (d num : ℕ) (x : Name) (n : ℕ) (s t : Net) → n ≢ d → n ≡ num → IsMade what s t → Making what d num x n s t
 making_object what d num x n s t away here r =
     let no : (n == d) ≡ false = ne_eqb n d away in
     let yes : (n == num) ≡ true = eq-eqb n num here in
@@ -68,7 +70,7 @@ making_object what d num x n s t away here r =
       written = rw (no, yes) r.numbers;
     }
 
-making_other : (what : What) (d num : ℕ) (x : Name) (n : ℕ) (s : Net) → n ≢ d → n ≢ num → Making what d num x n s s
+making_other : (what : NewObject) (d num : ℕ) (x : Name) (n : ℕ) (s : Net) → n ≢ d → n ≢ num → Making what d num x n s s
 making_other what d num x n s away apart =
     let no : (n == d) ≡ false = ne_eqb n d away in
     let not : (n == num) ≡ false = ne_eqb n num apart in
@@ -87,7 +89,7 @@ making_other what d num x n s away apart =
       written = rw (no, not) refl;
     }
 
-making_each : (what : What) (d num : ℕ) (x : Name) (s m t : Changes) → num ≢ d → At d (IsNamed x (Some num)) s m → At num (IsMade what) m t → (n : ℕ) → Making what d num x n (net_at s n) (net_at t n)
+making_each : (what : NewObject) (d num : ℕ) (x : Name) (s m t : Changes) → num ≢ d → At d (IsNamed x (Some num)) s m → At num (IsMade what) m t → (n : ℕ) → Making what d num x n (net_at s n) (net_at t n)
 making_each what d num x s m t apart named made n = elim (cases_eq n d) [
   | inl here ↦
       let away : n ≢ num = λ e. apart (sym e ∙ here) in
@@ -100,8 +102,8 @@ making_each what d num x s m t apart named made n = elim (cases_eq n d) [
   ]
 ]
 
-making_taken : (what : What) → what ≢ A_pipe → (d num : ℕ) (x : Name) (n : ℕ) (s t : Net) → Making what d num x n s t → Taken (num ∷ []) (making what d x) n s t
-making_taken A_directory named d num x n s t r = let unnamed : t.unnamed ≡ s.unnamed = r.unnamed in record {
+making_taken : (what : NewObject) (d num : ℕ) (x : Name) (n : ℕ) (s t : Net) → Making what d num x n s t → Taken (num ∷ []) (making what d x) n s t
+making_taken New_directory d num x n s t r = let unnamed : t.unnamed ≡ s.unnamed = r.unnamed in record {
   contents = λ o can. r.contents o;
   reach = λ o can. r.reach o;
   ends = λ ends is. inl (r.ends ends is);
@@ -113,8 +115,19 @@ making_taken A_directory named d num x n s t r = let unnamed : t.unnamed ≡ s.u
   added = r.added;
   written = λ b. as_written b (numbers_in t.contents) (if (n == d) || (n == num) then [] else numbers_in s.contents) r.written;
 }
-making_taken A_pipe named d num x n s t r = absurd (named refl)
-making_taken A_file named d num x n s t r = let unnamed : t.unnamed ≡ s.unnamed = r.unnamed in record {
+making_taken New_file d num x n s t r = let unnamed : t.unnamed ≡ s.unnamed = r.unnamed in record {
+  contents = λ o can. r.contents o;
+  reach = λ o can. r.reach o;
+  ends = λ ends is. inl (r.ends ends is);
+  made = r.made;
+  promised = r.promised;
+  named = r.named;
+  unnamed = omega arith;
+  form = r.form;
+  added = r.added;
+  written = λ b. as_written b (numbers_in t.contents) (if (n == d) || (n == num) then [] else numbers_in s.contents) r.written;
+}
+making_taken (New_fixed fixed) d num x n s t r = let unnamed : t.unnamed ≡ s.unnamed = r.unnamed in record {
   contents = λ o can. r.contents o;
   reach = λ o can. r.reach o;
   ends = λ ends is. inl (r.ends ends is);
@@ -127,15 +140,17 @@ making_taken A_file named d num x n s t r = let unnamed : t.unnamed ≡ s.unname
   written = λ b. as_written b (numbers_in t.contents) (if (n == d) || (n == num) then [] else numbers_in s.contents) r.written;
 }
 
-pub making_takes : (what : What) → what ≢ A_pipe → (d num : ℕ) (x : Name) (m : Changes) (old new : Patches) → num ≢ d → At d (IsNamed x (Some num)) old.inodes m → At num (IsMade what) m new.inodes
-    → new.openings ≡ old.openings → new.slots ≡ old.slots → new.unnamed_inodes ≡ old.unnamed_inodes → TakesIn (num ∷ []) (making what d x) old new
-making_takes A_directory is d num x m old new apart named made openings slots unnamed_inodes =
-    takes_first (num ∷ []) (making A_directory d x) old new (λ n. making_taken A_directory is d num x n (net_at old.inodes n) (net_at new.inodes n) (making_each A_directory d num x old.inodes m new.inodes apart named made n))
-    openings slots (unnamed_inodes ∙ sym (append-nil old.unnamed_inodes)) (λ d o. refl) (λ pid o. refl) refl
-making_takes A_pipe is d num x m old new apart named made openings slots unnamed_inodes = absurd (is refl)
-making_takes A_file is d num x m old new apart named made openings slots unnamed_inodes =
-    takes_first (num ∷ []) (making A_file d x) old new (λ n. making_taken A_file is d num x n (net_at old.inodes n) (net_at new.inodes n) (making_each A_file d num x old.inodes m new.inodes apart named made n))
-    openings slots (unnamed_inodes ∙ sym (append-nil old.unnamed_inodes)) (λ d o. refl) (λ pid o. refl) refl
+pub making_takes : (what : NewObject) (d num : ℕ) (x : Name) (m : Changes) (old new : Patches) → num ≢ d → At d (IsNamed x (Some num)) old.inodes m → At num (IsMade what) m new.inodes
+    → new.rights ≡ old.rights → new.openings ≡ old.openings → new.slots ≡ old.slots → new.unnamed_inodes ≡ old.unnamed_inodes → TakesIn (num ∷ []) (making what d x) old new
+making_takes New_directory d num x m old new apart named made rights openings slots unnamed_inodes =
+    takes_first (num ∷ []) (making New_directory d x) old new (λ n. making_taken New_directory d num x n (net_at old.inodes n) (net_at new.inodes n) (making_each New_directory d num x old.inodes m new.inodes apart named made n))
+    rights openings slots (unnamed_inodes ∙ sym (append-nil old.unnamed_inodes)) (λ n o. refl) (λ d o. refl) (λ pid o. refl) refl
+making_takes New_file d num x m old new apart named made rights openings slots unnamed_inodes =
+    takes_first (num ∷ []) (making New_file d x) old new (λ n. making_taken New_file d num x n (net_at old.inodes n) (net_at new.inodes n) (making_each New_file d num x old.inodes m new.inodes apart named made n))
+    rights openings slots (unnamed_inodes ∙ sym (append-nil old.unnamed_inodes)) (λ n o. refl) (λ d o. refl) (λ pid o. refl) refl
+making_takes (New_fixed fixed) d num x m old new apart named made rights openings slots unnamed_inodes =
+    takes_first (num ∷ []) (making (New_fixed fixed) d x) old new (λ n. making_taken (New_fixed fixed) d num x n (net_at old.inodes n) (net_at new.inodes n) (making_each (New_fixed fixed) d num x old.inodes m new.inodes apart named made n))
+    rights openings slots (unnamed_inodes ∙ sym (append-nil old.unnamed_inodes)) (λ n o. refl) (λ d o. refl) (λ pid o. refl) refl
 
 -- A name of a directory gives something else, or nothing: to the directory it adds a name where it gives something,
 abbrev came : ℕ → Option ℕ → List ℕ
@@ -255,10 +270,10 @@ linking_taken chosen d num x n s m t g l =
     }
 
 pub linking_takes : (chosen : List ℕ) (d num : ℕ) (x : Name) (m : Changes) (old new : Patches) → At d (IsNamed x (Some num)) old.inodes m → At num IsGiven m new.inodes
-    → new.openings ≡ old.openings → new.slots ≡ old.slots → new.unnamed_inodes ≡ old.unnamed_inodes → TakesIn chosen (Name_file d x num) old new
-linking_takes chosen d num x m old new named given openings slots unnamed_inodes =
+    → new.rights ≡ old.rights → new.openings ≡ old.openings → new.slots ≡ old.slots → new.unnamed_inodes ≡ old.unnamed_inodes → TakesIn chosen (Name_file d x num) old new
+linking_takes chosen d num x m old new named given rights openings slots unnamed_inodes =
     takes_first chosen (Name_file d x num) old new (λ n. linking_taken chosen d num x n (net_at old.inodes n) (net_at m n) (net_at new.inodes n) (naming_at d x (Some num) old.inodes m named n) (gaining_at num m new.inodes given n))
-    openings slots (unnamed_inodes ∙ sym (append-nil old.unnamed_inodes)) (λ d o. refl) (λ pid o. refl) refl
+    rights openings slots (unnamed_inodes ∙ sym (append-nil old.unnamed_inodes)) (λ n o. refl) (λ d o. refl) (λ pid o. refl) refl
 
 -- A name goes.
 unnaming_taken : (what : What) (chosen : List ℕ) (d num : ℕ) (x : Name) (n : ℕ) (s m t : Net) → Naming d x None n s m → Losing (num ∷ []) n m t → Taken chosen (unnaming what d x num) n s t
@@ -307,21 +322,23 @@ unnaming_taken what chosen d num x n s m t g l = by_what what
       written = λ b. as_written b (numbers_in t.contents) (kept_beside d n (numbers_in s.contents)) (ap numbers_in contents ∙ g.numbers);
     }
     by_what A_pipe = as_file
+    by_what A_fixed = as_file
     by_what A_file = as_file
 
 pub unnaming_takes : (what : What) (chosen : List ℕ) (d num : ℕ) (x : Name) (m : Changes) (old new : Patches) → At d (IsNamed x None) old.inodes m → At num IsUnnamed m new.inodes
-    → new.openings ≡ old.openings → new.slots ≡ old.slots → new.unnamed_inodes ≡ old.unnamed_inodes ++ (num ∷ []) → TakesIn chosen (unnaming what d x num) old new
-unnaming_takes what chosen d num x m old new named unnamed openings slots unnamed_inodes = by_what what
+    → new.rights ≡ old.rights → new.openings ≡ old.openings → new.slots ≡ old.slots → new.unnamed_inodes ≡ old.unnamed_inodes ++ (num ∷ []) → TakesIn chosen (unnaming what d x num) old new
+unnaming_takes what chosen d num x m old new named unnamed rights openings slots unnamed_inodes = by_what what
   where
     each : (what : What) (n : ℕ) → Taken chosen (unnaming what d x num) n (net_at old.inodes n) (net_at new.inodes n)
     each what n = unnaming_taken what chosen d num x n (net_at old.inodes n) (net_at m n) (net_at new.inodes n) (naming_at d x None old.inodes m named n) (losing_at num m new.inodes unnamed n)
 
     as_file : TakesIn chosen (Unname_file d x num) old new
-    as_file = takes_first chosen (unnaming A_file d x num) old new (each A_file) openings slots unnamed_inodes (λ d o. refl) (λ pid o. refl) refl
+    as_file = takes_first chosen (unnaming A_file d x num) old new (each A_file) rights openings slots unnamed_inodes (λ n o. refl) (λ d o. refl) (λ pid o. refl) refl
 
     by_what : (what : What) → TakesIn chosen (unnaming what d x num) old new
-    by_what A_directory = takes_first chosen (unnaming A_directory d x num) old new (each A_directory) openings slots unnamed_inodes (λ d o. refl) (λ pid o. refl) refl
+    by_what A_directory = takes_first chosen (unnaming A_directory d x num) old new (each A_directory) rights openings slots unnamed_inodes (λ n o. refl) (λ d o. refl) (λ pid o. refl) refl
     by_what A_pipe = as_file
+    by_what A_fixed = as_file
     by_what A_file = as_file
 
 -- A name moves.
@@ -353,11 +370,11 @@ moving_taken chosen d x e y num replaced n s a b t g h l =
     }
 
 pub moving_takes : (chosen : List ℕ) (d : ℕ) (x : Name) (e : ℕ) (y : Name) (num : ℕ) (replaced : Replaced) (m : Changes) (old new : Patches) → AreNamed d x e y num old.inodes m → ((n : ℕ) → Losing (inode_replaced replaced) n (net_at m n) (net_at new.inodes n))
-    → new.openings ≡ old.openings → new.slots ≡ old.slots → new.unnamed_inodes ≡ old.unnamed_inodes ++ inode_replaced replaced → TakesIn chosen (Move d x e y num replaced) old new
-moving_takes chosen d x e y num replaced m old new moved loses openings slots unnamed_inodes =
+    → new.rights ≡ old.rights → new.openings ≡ old.openings → new.slots ≡ old.slots → new.unnamed_inodes ≡ old.unnamed_inodes ++ inode_replaced replaced → TakesIn chosen (Move d x e y num replaced) old new
+moving_takes chosen d x e y num replaced m old new moved loses rights openings slots unnamed_inodes =
     takes_first chosen (Move d x e y num replaced) old new (λ n. moving_taken chosen d x e y num replaced n (net_at old.inodes n) (net_at moved.mid n) (net_at m n) (net_at new.inodes n)
     (naming_at d x None old.inodes moved.mid moved.gone n) (naming_at e y (Some num) moved.mid m moved.come n) (loses n))
-    openings slots unnamed_inodes (λ d o. refl) (λ pid o. refl) refl
+    rights openings slots unnamed_inodes (λ n o. refl) (λ d o. refl) (λ pid o. refl) refl
 
 -- that a name moves takes no name from an inode
 pub moved_count : (d : ℕ) (x : Name) (e : ℕ) (y : Name) (num : ℕ) (s t : Changes) → AreNamed d x e y num s t → (n : ℕ) → (net_at t n).unnamed ≡ (net_at s n).unnamed

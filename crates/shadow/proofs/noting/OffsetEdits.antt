@@ -7,7 +7,7 @@ use Rattle.model.specs.State.{Description, Process, mapped}
 use Rattle.model.specs.Changes.{Clear_slot, Make_pipe, Share_slot, Open_inode, Set_offset, Which, at_offset, at_start, number, or_new, to_read, to_write, with_slot}
 use Rattle.model.specs.Moments.{is_in}
 use Rattle.shadow.specs.declared.opening.Opening.{Opening}
-use Rattle.shadow.specs.Patches.{Patches, added_by, is_new, net_at, kept_at, numbers_in, opening_at, reopened, reslotted}
+use Rattle.shadow.specs.Patches.{Patches, added_by, is_new, net_at, kept_at, numbers_in, opening_at, reopened, reslotted, rights_over}
 use Rattle.shadow.specs.Openings.{AtOpening, AtSlots, IsMoved, IsOpened, slot_noted}
 use Rattle.shadow.specs.Steps.{TakesIn, kept_beside, new_in}
 use Rattle.shadow.proofs.noting.InodeNotes.{as_written}
@@ -30,6 +30,7 @@ moving_takes chosen d place old openings moved = record {
   inodes = λ n o can. refl;
   reach = λ n o can was. was;
   pipes = λ n ends is. inl is;
+  rights = λ n o. refl;
   descriptions = moved_at d place old.openings openings moved;
   processes = λ pid o. refl;
   made = λ n. refl;
@@ -77,6 +78,7 @@ opening_takes chosen i inode mode pid f old openings slots opened slotted = reco
   inodes = λ n o can. refl;
   reach = λ n o can was. was;
   pipes = λ n ends is. inl is;
+  rights = λ n o. refl;
   descriptions = opened_at (new_in chosen i) (at_start (number chosen inode) mode) old.openings openings opened;
   processes = slot_at pid f (Some (new_in chosen i)) old.slots slots slotted;
   made = λ n. refl;
@@ -96,6 +98,7 @@ clearing_takes chosen pid f pipes old slots slotted = record {
   inodes = λ n o can. refl;
   reach = λ n o can was. was;
   pipes = λ n ends is. inl is;
+  rights = λ n o. refl;
   descriptions = λ d o. refl;
   processes = slot_at pid f None old.slots slots slotted;
   made = λ n. refl;
@@ -115,6 +118,7 @@ sharing_takes chosen pid f d pipes old slots slotted = record {
   inodes = λ n o can. refl;
   reach = λ n o can was. was;
   pipes = λ n ends is. inl is;
+  rights = λ n o. refl;
   descriptions = λ e o. refl;
   processes = slot_at pid f (Some d) old.slots slots slotted;
   made = λ n. refl;
@@ -162,11 +166,12 @@ two_slots q f g r w s t u first second pid o =
 
 pub piping_takes : (chosen : List ℕ) (pid f g : ℕ) (old new : Patches) (t : List (ℕ × Opening)) (slots : List (ℕ × Given)) → ((n : ℕ) → Piping chosen 0 n (net_at old.inodes n) (net_at new.inodes n))
     → ends_after old.openings t new.openings (new_in chosen 0) (new_in chosen 1) (new_in chosen 2)
-    → AtSlots pid f (Some (new_in chosen 1)) old.slots slots → AtSlots pid g (Some (new_in chosen 2)) slots new.slots → new.unnamed_inodes ≡ old.unnamed_inodes → TakesIn chosen (Make_pipe 0 pid f g) old new
-piping_takes chosen pid f g old new t slots each both first second unnamed_inodes = record {
+    → AtSlots pid f (Some (new_in chosen 1)) old.slots slots → AtSlots pid g (Some (new_in chosen 2)) slots new.slots → new.rights ≡ old.rights → new.unnamed_inodes ≡ old.unnamed_inodes → TakesIn chosen (Make_pipe 0 pid f g) old new
+piping_takes chosen pid f g old new t slots each both first second rights unnamed_inodes = record {
   inodes = λ n o can. (each n).contents o;
   reach = λ n o can. (each n).reach o;
   pipes = λ n. (each n).ends;
+  rights = λ n o. ap (λ rs. rights_over (kept_at rs n) o) rights;
   descriptions = two_opened (new_in chosen 0) (new_in chosen 1) (new_in chosen 2) old.openings t new.openings both;
   processes = two_slots pid f g (new_in chosen 1) (new_in chosen 2) old.slots slots new.slots first second;
   made = λ n. (each n).made;

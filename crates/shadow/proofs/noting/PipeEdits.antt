@@ -64,21 +64,21 @@ if_not : {A : Type 0} (b : Bool) (x y : A) → b ≡ false → cond b x y ≡ y
 if_not false x y is = refl
 if_not true x y is = absurd cc
 
-pub take_takes : (p count : ℕ) (old new : Patches) → At p (IsTaken count) old.inodes new.inodes → new.openings ≡ old.openings → new.slots ≡ old.slots → new.unnamed_inodes ≡ old.unnamed_inodes → TakesIn [] (Take p count) old new
-take_takes p count old new at openings slots unnamed_inodes = takes_first [] (Take p count) old new (λ n. passing_taken p (Take p count) (drop count) count n (net_at old.inodes n) (net_at new.inodes n)
+pub take_takes : (p count : ℕ) (old new : Patches) → At p (IsTaken count) old.inodes new.inodes → new.rights ≡ old.rights → new.openings ≡ old.openings → new.slots ≡ old.slots → new.unnamed_inodes ≡ old.unnamed_inodes → TakesIn [] (Take p count) old new
+take_takes p count old new at rights openings slots unnamed_inodes = takes_first [] (Take p count) old new (λ n. passing_taken p (Take p count) (drop count) count n (net_at old.inodes n) (net_at new.inodes n)
     (λ o can is. can is) (λ o is. if_so (n == p) (bytes_taken count o) o (eq-eqb n p is)) (λ o away. if_not (n == p) (bytes_taken count o) o (ne_eqb n p away)) refl refl refl refl
     (λ is. if_so (n == p) (piped (form_of (net_at old.inodes n).contents)) (form_of (net_at old.inodes n).contents) (eq-eqb n p is))
     (λ away. if_not (n == p) (piped (form_of (net_at old.inodes n).contents)) (form_of (net_at old.inodes n).contents) (ne_eqb n p away))
     (λ bs. refl) refl (at_here p n (IsTaken count) old.inodes new.inodes at) (at.others n))
-    openings slots (unnamed_inodes ∙ sym (append-nil old.unnamed_inodes)) (λ d o. refl) (λ pid o. refl) refl
+    rights openings slots (unnamed_inodes ∙ sym (append-nil old.unnamed_inodes)) (λ n o. refl) (λ d o. refl) (λ pid o. refl) refl
 
-pub append_takes : (p : ℕ) (bytes : List ℕ) (old new : Patches) → At p (IsAppended bytes) old.inodes new.inodes → new.openings ≡ old.openings → new.slots ≡ old.slots → new.unnamed_inodes ≡ old.unnamed_inodes → TakesIn [] (Append p bytes) old new
-append_takes p bytes old new at openings slots unnamed_inodes = takes_first [] (Append p bytes) old new (λ n. passing_taken p (Append p bytes) (λ xs. xs ++ bytes) 0 n (net_at old.inodes n) (net_at new.inodes n)
+pub append_takes : (p : ℕ) (bytes : List ℕ) (old new : Patches) → At p (IsAppended bytes) old.inodes new.inodes → new.rights ≡ old.rights → new.openings ≡ old.openings → new.slots ≡ old.slots → new.unnamed_inodes ≡ old.unnamed_inodes → TakesIn [] (Append p bytes) old new
+append_takes p bytes old new at rights openings slots unnamed_inodes = takes_first [] (Append p bytes) old new (λ n. passing_taken p (Append p bytes) (λ xs. xs ++ bytes) 0 n (net_at old.inodes n) (net_at new.inodes n)
     (λ o can is. can is) (λ o is. if_so (n == p) (bytes_appended bytes o) o (eq-eqb n p is)) (λ o away. if_not (n == p) (bytes_appended bytes o) o (ne_eqb n p away)) refl refl refl refl
     (λ is. if_so (n == p) (piped (form_of (net_at old.inodes n).contents)) (form_of (net_at old.inodes n).contents) (eq-eqb n p is))
     (λ away. if_not (n == p) (piped (form_of (net_at old.inodes n).contents)) (form_of (net_at old.inodes n).contents) (ne_eqb n p away))
     (λ bs. refl) refl (at_here p n (IsAppended bytes) old.inodes new.inodes at) (at.others n))
-    openings slots (unnamed_inodes ∙ sym (append-nil old.unnamed_inodes)) (λ d o. refl) (λ pid o. refl) refl
+    rights openings slots (unnamed_inodes ∙ sym (append-nil old.unnamed_inodes)) (λ n o. refl) (λ d o. refl) (λ pid o. refl) refl
 
 -- what is kept under one number where a pipe is made
 pub record Piping (chosen : List ℕ) (i n : ℕ) (old new : Net) : Type 0 where

@@ -1,7 +1,7 @@
 -- What patches take in of an edit does not hang on numbers of the call that the edit does not use.
 use Rattle.std.proofs.Common.{◌≡◌, ℕ, List, [], ◌∷◌, sym, subst}
-use Rattle.model.specs.State.{Name}
-use Rattle.model.specs.Changes.{Append, Cut, Make_directory, Make_file, Make_pipe, Put_bytes, Take}
+use Rattle.model.specs.State.{Fixed_content, Name}
+use Rattle.model.specs.Changes.{Append, Cut, Make_directory, Make_file, Make_fixed, Make_pipe, Put_bytes, Take}
 use Rattle.shadow.specs.Patches.{Patches}
 use Rattle.shadow.specs.Steps.{TakesIn, new_in}
 
@@ -11,6 +11,7 @@ module _ (chosen : List ℕ) (p q : Patches) where
     inodes = t.inodes;
     reach = t.reach;
     pipes = t.pipes;
+    rights = t.rights;
     descriptions = t.descriptions;
     processes = t.processes;
     made = t.made;
@@ -32,6 +33,7 @@ module _ (chosen : List ℕ) (p q : Patches) where
     inodes = t.inodes;
     reach = t.reach;
     pipes = t.pipes;
+    rights = t.rights;
     descriptions = t.descriptions;
     processes = t.processes;
     made = t.made;
@@ -48,11 +50,34 @@ module _ (chosen : List ℕ) (p q : Patches) where
   pub file_taken : (d num i : ℕ) (x : Name) → i ≡ 0 → num ≡ new_in chosen 0 → TakesIn (num ∷ []) (Make_file d x 0) p q → TakesIn chosen (Make_file d x i) p q
   file_taken d num i x first is t = subst (λ j. TakesIn chosen (Make_file d x j) p q) (sym first) (file_taken_by d x (subst (λ n. TakesIn (n ∷ []) (Make_file d x 0) p q) is t))
 
+  fixed_taken_by : (d : ℕ) (x : Name) (fixed : Fixed_content) → TakesIn (new_in chosen 0 ∷ []) (Make_fixed d x fixed 0) p q → TakesIn chosen (Make_fixed d x fixed 0) p q
+  fixed_taken_by d x fixed t = record {
+    inodes = t.inodes;
+    reach = t.reach;
+    pipes = t.pipes;
+    rights = t.rights;
+    descriptions = t.descriptions;
+    processes = t.processes;
+    made = t.made;
+    promised = t.promised;
+    named = t.named;
+    unnamed = t.unnamed;
+    unnamed_inodes = t.unnamed_inodes;
+    forms = t.forms;
+    added = t.added;
+    news = t.news;
+    written = t.written;
+  }
+
+  pub fixed_taken : (d num i : ℕ) (x : Name) (fixed : Fixed_content) → i ≡ 0 → num ≡ new_in chosen 0 → TakesIn (num ∷ []) (Make_fixed d x fixed 0) p q → TakesIn chosen (Make_fixed d x fixed i) p q
+  fixed_taken d num i x fixed first is t = subst (λ j. TakesIn chosen (Make_fixed d x fixed j) p q) (sym first) (fixed_taken_by d x fixed (subst (λ n. TakesIn (n ∷ []) (Make_fixed d x fixed 0) p q) is t))
+
   pub put_taken : (n place : ℕ) (bytes : List ℕ) (before : ℕ) → TakesIn [] (Put_bytes n place bytes before) p q → TakesIn chosen (Put_bytes n place bytes before) p q
   put_taken n place bytes before t = record {
     inodes = t.inodes;
     reach = t.reach;
     pipes = t.pipes;
+    rights = t.rights;
     descriptions = t.descriptions;
     processes = t.processes;
     made = t.made;
@@ -71,6 +96,7 @@ module _ (chosen : List ℕ) (p q : Patches) where
     inodes = t.inodes;
     reach = t.reach;
     pipes = t.pipes;
+    rights = t.rights;
     descriptions = t.descriptions;
     processes = t.processes;
     made = t.made;
@@ -89,6 +115,7 @@ module _ (chosen : List ℕ) (p q : Patches) where
     inodes = t.inodes;
     reach = t.reach;
     pipes = t.pipes;
+    rights = t.rights;
     descriptions = t.descriptions;
     processes = t.processes;
     made = t.made;
@@ -107,6 +134,7 @@ module _ (chosen : List ℕ) (p q : Patches) where
     inodes = t.inodes;
     reach = t.reach;
     pipes = t.pipes;
+    rights = t.rights;
     descriptions = t.descriptions;
     processes = t.processes;
     made = t.made;
@@ -125,6 +153,7 @@ module _ (chosen : List ℕ) (p q : Patches) where
     inodes = t.inodes;
     reach = t.reach;
     pipes = t.pipes;
+    rights = t.rights;
     descriptions = t.descriptions;
     processes = t.processes;
     made = t.made;

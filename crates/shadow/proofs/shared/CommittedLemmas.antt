@@ -14,7 +14,7 @@ use Rattle.store.specs.declared.Place.{Place}
 use Rattle.store.specs.declared.Stage.{Stage}
 use Rattle.store.specs.declared.Stage.TheVariants.{Coming, Held, Removed}
 use Rattle.store.specs.declared.Object.{Object}
-use Rattle.store.specs.declared.Object.TheVariants.{Directory as Kept_directory, File as Kept_file, Pipe as Kept_pipe, Description as Kept_description, Nothing}
+use Rattle.store.specs.declared.Object.TheVariants.{Directory as Kept_directory, File as Kept_file, Pipe as Kept_pipe, Fixed as Kept_fixed, Description as Kept_description, Nothing}
 use Rattle.shadow.specs.Committed.{Committed}
 use Rattle.shadow.specs.Claims.{Claim, IsDirectory, KeepsMore, Stays, new_number, reserved}
 use Rattle.shadow.specs.Looks.{DirectoriesAreKept}
@@ -22,6 +22,7 @@ use Rattle.shadow.specs.Stored.{Processes, committed_of, reserve_in, state_of}
 use Rattle.shadow.proofs.shared.ProcessLemmas.{begun, fresh}
 use Rattle.shadow.proofs.claims.ClaimCounts.{IsAwaited, IsListed, listed_of, met, met_is, of_listed, stays_listed, with_place}
 use Rattle.shadow.proofs.shared.PlaceLemmas.{get_chosen}
+use Rattle.shadow.proofs.shared.FixedKinds.{no_directory}
 
 met_new : (s : Numbers) (b : Bool) (n : ℕ) → 0 < met s (new_number b n) → IsAwaited b n (get s.places n)
 met_new s true n some = some
@@ -60,6 +61,7 @@ shown_listed Removed object is = absurd (not_none A_directory (sym is))
 shown_listed Held (Kept_directory l) is = λ e. not_none l.promised e
 shown_listed Held (Kept_file file) is = absurd cc
 shown_listed Held (Kept_pipe pipe) is = absurd cc
+shown_listed Held (Kept_fixed fixed) is = no_directory fixed is
 shown_listed Held (Kept_description opened) is = absurd (not_none A_directory (sym is))
 shown_listed Held Nothing is = absurd (not_none A_directory (sym is))
 
@@ -71,11 +73,12 @@ directories_kept ps s d is = of_listed ps s d (by_place (get s.places d) (ap (ma
     by_place (Some place) is = shown_listed place.stage place.object is
 
 -- the first state
-pub first_state : (ps : Processes) (setup : Setup) (s : Numbers) → ps ≡ record { list = map fresh setup.priorities; largest = setup.largest } → s.root ≡ 0 → inodes s ≡ insert empty s.root (Directory empty) → descriptions s ≡ empty → state_of ps s ≡ start 0 setup
-first_state ps setup s list root shown opened_same =
+pub first_state : (ps : Processes) (setup : Setup) (s : Numbers) → ps ≡ record { list = map fresh setup.priorities; largest = setup.largest } → s.root ≡ 0 → inodes s ≡ insert empty s.root (Directory empty) → descriptions s ≡ empty → s.rights ≡ empty → state_of ps s ≡ start 0 setup
+first_state ps setup s list root shown opened_same unset =
     ap (λ ps. state_of ps s) list ∙ (λ i. record {
       root = 0;
       inodes = (shown ∙ ap (λ r. insert empty r (Directory empty)) root) i;
+      rights = unset i;
       descriptions = opened_same i;
       processes = sym (begun setup.priorities setup.largest) i;
       made = length-map setup.priorities fresh i;

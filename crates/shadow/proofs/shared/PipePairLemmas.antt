@@ -19,7 +19,7 @@ use Rattle.store.specs.declared.Place.{Place}
 use Rattle.store.specs.declared.Stage.{Stage}
 use Rattle.store.specs.declared.Stage.TheVariants.{Coming, Held, Removed}
 use Rattle.store.specs.declared.Object.{Object}
-use Rattle.store.specs.declared.Object.TheVariants.{Directory as Kept_directory, File as Kept_file, Pipe as Kept_pipe, Description as Kept_description, Nothing}
+use Rattle.store.specs.declared.Object.TheVariants.{Directory as Kept_directory, File as Kept_file, Pipe as Kept_pipe, Fixed as Kept_fixed, Description as Kept_description, Nothing}
 use Rattle.store.proofs.Laws.{left-altered}
 
 -- where the descriptions are the same
@@ -84,6 +84,7 @@ ends_seen o = option_map ends_in (shown_pipe o)
 
 pub pipe_of_object : (o : Option Object) (pipe : OpenPipe) → shown_pipe o ≡ Some pipe → o ≡ Some (Kept_pipe pipe)
 pipe_of_object (Some (Kept_pipe it)) pipe is = ap (option_map Kept_pipe) is
+pipe_of_object (Some (Kept_fixed fixed)) pipe is = absurd cc
 pipe_of_object (Some (Kept_directory listing)) pipe is = absurd cc
 pipe_of_object (Some (Kept_file file)) pipe is = absurd cc
 pipe_of_object (Some (Kept_description opened)) pipe is = absurd cc
@@ -93,6 +94,7 @@ pipe_of_object None pipe is = absurd cc
 -- it is one in the state too
 pub ends_kind : (o : Option Object) (ends : ℕ × ℕ) → ends_seen o ≡ Some ends → mapped kind (option_and_then inode_of o) ≡ Some A_pipe
 ends_kind (Some (Kept_pipe pipe)) ends is = refl
+ends_kind (Some (Kept_fixed fixed)) ends is = absurd cc
 ends_kind (Some (Kept_directory listing)) ends is = absurd cc
 ends_kind (Some (Kept_file file)) ends is = absurd cc
 ends_kind (Some (Kept_description opened)) ends is = absurd cc
@@ -109,6 +111,7 @@ pipe_by_file g place = by_stage place.stage place.object
     by_stage Held (Kept_directory listing) = refl
     by_stage Held (Kept_file file) = refl
     by_stage Held (Kept_pipe pipe) = refl
+    by_stage Held (Kept_fixed fixed) = refl
     by_stage Held (Kept_description opened) = refl
     by_stage Held Nothing = refl
 
@@ -121,6 +124,7 @@ pipe_by_opened g place = by_stage place.stage place.object
     by_stage Held (Kept_directory listing) = refl
     by_stage Held (Kept_file file) = refl
     by_stage Held (Kept_pipe pipe) = refl
+    by_stage Held (Kept_fixed fixed) = refl
     by_stage Held (Kept_description opened) = refl
     by_stage Held Nothing = refl
 
@@ -134,6 +138,7 @@ ends_by_pipe g same place = by_stage place.stage place.object
     by_stage Held (Kept_directory listing) = refl
     by_stage Held (Kept_file file) = refl
     by_stage Held (Kept_pipe pipe) = ap (λ e. Some e) (same pipe)
+    by_stage Held (Kept_fixed fixed) = refl
     by_stage Held (Kept_description opened) = refl
     by_stage Held Nothing = refl
 

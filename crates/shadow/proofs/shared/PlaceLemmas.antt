@@ -18,7 +18,7 @@ use Rattle.store.specs.Shown.{chosen, chosen_entries, in_front}
 use Rattle.store.specs.declared.Place.{Place}
 
 abbrev pub without_place : Numbers → ℕ → Numbers
-without_place s n = record s { places = remove s.places n }
+without_place s n = record s { places = remove s.places n; rights = remove s.rights n }
 
 module _ (f : Place → Place) (s : Numbers) (n : ℕ) where
   -- the places after a change of one

@@ -11,7 +11,7 @@ use Rattle.freeing_laws.specs.Sweep.{IsTidied, loses}
 use Rattle.freeing_laws.proofs.Laws.{sweep_is_tidy_lem}
 use Rattle.store.specs.Numbers.{Numbers, object_at}
 use Rattle.store.specs.declared.Object.{Object}
-use Rattle.store.specs.declared.Object.TheVariants.{Directory as Kept_directory, File as Kept_file, Pipe as Kept_pipe, Description as Kept_description, Nothing}
+use Rattle.store.specs.declared.Object.TheVariants.{Directory as Kept_directory, File as Kept_file, Pipe as Kept_pipe, Fixed as Kept_fixed, Description as Kept_description, Nothing}
 use Rattle.shadow.specs.Claims.{Claim, KeepsMore, KeepsSame, Room, New_directory, Number, reserved}
 use Rattle.shadow.specs.Committed.{Committed}
 use Rattle.shadow.specs.Laid.{kept_in}
@@ -43,6 +43,7 @@ counts_of ps s h = record { openings = λ n c is. files n c (object_at s n) refl
     files n c (Some (Kept_directory l)) e is = absurd cc
     files n c (Some (Kept_file file)) e is = sym (some_same file.openings c is) ∙ h.openings n file e
     files n c (Some (Kept_pipe pipe)) e is = absurd cc
+    files n c (Some (Kept_fixed fixed)) e is = absurd cc
     files n c (Some (Kept_description opened)) e is = absurd cc
     files n c (Some Nothing) e is = absurd cc
 
@@ -51,6 +52,7 @@ counts_of ps s h = record { openings = λ n c is. files n c (object_at s n) refl
     held_by d c (Some (Kept_directory l)) e is = absurd cc
     held_by d c (Some (Kept_file file)) e is = absurd cc
     held_by d c (Some (Kept_pipe pipe)) e is = absurd cc
+    held_by d c (Some (Kept_fixed fixed)) e is = absurd cc
     held_by d c (Some (Kept_description opened)) e is = sym (some_same opened.holders c is) ∙ h.holders d opened e
     held_by d c (Some Nothing) e is = absurd cc
 
@@ -59,6 +61,7 @@ counts_of ps s h = record { openings = λ n c is. files n c (object_at s n) refl
     pairs p ends (Some (Kept_directory l)) e is = absurd cc
     pairs p ends (Some (Kept_file file)) e is = absurd cc
     pairs p ends (Some (Kept_pipe pipe)) e is = subst (λ (ends : ℕ × ℕ). ArePair (state_of ps s).descriptions p ends.0 ends.1) (some_same (ends_in pipe) ends is) (h.pipes p pipe e)
+    pairs p ends (Some (Kept_fixed fixed)) e is = absurd cc
     pairs p ends (Some (Kept_description opened)) e is = absurd cc
     pairs p ends (Some Nothing) e is = absurd cc
 

@@ -7,14 +7,15 @@ use Rattle.model.specs.State.{A_directory, Inode, kind, mapped}
 use Rattle.model.specs.Effects.{Effect, all_done}
 use Rattle.freeing_laws.specs.Sweep.{AllFit}
 use Rattle.shadow.specs.declared.change.Contents.{Contents}
-use Rattle.shadow.specs.declared.change.Contents.TheVariants.{Same, Names, Bytes, Pipe}
+use Rattle.shadow.specs.declared.change.Contents.TheVariants.{Same, Names, Bytes, Pipe, Fixed}
 use Rattle.shadow.specs.declared.change.Made.{Made}
-use Rattle.shadow.specs.declared.change.Made.TheVariants.{Directory, File, Pipe as New_pipe}
+use Rattle.shadow.specs.declared.change.Made.TheVariants.{Directory, File, Pipe as New_pipe, Fixed as New_fixed}
 use Rattle.shadow.specs.Agrees.{Agrees, IsOver}
 use Rattle.shadow.specs.Claims.{Covers, IsDirectory, New_directory, as_count, coming_directory, is_directory_made, room_of}
 use Rattle.shadow.specs.Committed.{Committed, Reserve}
 use Rattle.shadow.specs.Looks.{DirectoriesAreKept}
 use Rattle.shadow.specs.Patches.{Patches, form_of, net_at, patched}
+use Rattle.shadow.proofs.shared.FixedKinds.{no_directory}
 
 none_coming : (o : Option Reserve) → room_of o ≡ None → coming_directory o ≡ 0
 none_coming None none = refl
@@ -36,14 +37,22 @@ module _ (reserves : FinMap nat_cmp Reserve) (d : ℕ) (o : Option Inode) where
   by_made (Some File) (Names fresh notes) over new old is = absurd cc
   by_made (Some File) (Bytes fresh bytes) over new old is = absurd cc
   by_made (Some File) (Pipe ends changes) over new old is = absurd cc
+  by_made (Some File) (Fixed fixed) over new old is = absurd cc
   by_made (Some New_pipe) Same over new old is = absurd cc
   by_made (Some New_pipe) (Names fresh notes) over new old is = absurd cc
   by_made (Some New_pipe) (Bytes fresh bytes) over new old is = absurd cc
   by_made (Some New_pipe) (Pipe ends changes) over new old is = absurd cc
+  by_made (Some New_pipe) (Fixed fixed) over new old is = absurd cc
+  by_made (Some New_fixed) Same over new old is = absurd cc
+  by_made (Some New_fixed) (Names fresh notes) over new old is = absurd cc
+  by_made (Some New_fixed) (Bytes fresh bytes) over new old is = absurd cc
+  by_made (Some New_fixed) (Pipe ends changes) over new old is = absurd cc
+  by_made (Some New_fixed) (Fixed fixed) over new old is = no_directory fixed is
   by_made None Same over new old is = old is
   by_made None (Names fresh notes) over new old is = old over.1
   by_made None (Bytes fresh bytes) over new old is = absurd cc
   by_made None (Pipe ends changes) over new old is = absurd cc
+  by_made None (Fixed fixed) over new old is = absurd over
 
 pub kept_over : (ds : List Effect) (p : Patches) (s : Committed) → Agrees ds p → AllFit ds s.state → Covers s ds → DirectoriesAreKept s → DirectoriesAreKept (record s { state = all_done ds s.state })
 kept_over ds p s a fits covers kept d is =

@@ -1,7 +1,7 @@
 -- The two descriptions of a pipe, with a transaction's changes on top.
 use Rattle.std.proofs.Common.{◌≡◌, ℕ, List, Option, Some, None, IfSome, refl, sym}
 use Rattle.model.specs.FiniteMap.{get}
-use Rattle.model.specs.State.{A_pipe, Directory, File, Inode, Kernel, Pipe, kind, mapped}
+use Rattle.model.specs.State.{A_pipe, Directory, File, Fixed, Inode, Kernel, Pipe, kind, mapped}
 use Rattle.model.specs.Effects.{Effect, all_done}
 use Rattle.call_laws.specs.WellFormed.{WellFormed}
 use Rattle.freeing_laws.specs.Pipes.{ArePair}
@@ -22,6 +22,7 @@ is_pipe : (o : Option Inode) (bytes : List ℕ) → pipe_inode o ≡ Some (Pipe 
 is_pipe (Some (Pipe bytes)) other is = refl
 is_pipe (Some (File bytes)) other is = absurd cc
 is_pipe (Some (Directory names)) other is = absurd cc
+is_pipe (Some (Fixed fixed)) other is = absurd cc
 is_pipe None other is = absurd cc
 
 -- and of one that was there before

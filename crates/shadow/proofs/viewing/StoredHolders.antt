@@ -12,7 +12,7 @@ use Rattle.store.specs.declared.Place.{Place}
 use Rattle.store.specs.declared.Stage.{Stage}
 use Rattle.store.specs.declared.Stage.TheVariants.{Coming, Held, Removed}
 use Rattle.store.specs.declared.Object.{Object}
-use Rattle.store.specs.declared.Object.TheVariants.{Directory as Kept_directory, File as Kept_file, Pipe as Kept_pipe, Description as Kept_description, Nothing}
+use Rattle.store.specs.declared.Object.TheVariants.{Directory as Kept_directory, File as Kept_file, Pipe as Kept_pipe, Fixed as Kept_fixed, Description as Kept_description, Nothing}
 use Rattle.store.proofs.Laws.{get-descriptions}
 use Rattle.shadow.specs.Stored.{FitsStage, IsStaged, Processes, Sound, state_of}
 
@@ -28,6 +28,7 @@ module _ (ps : Processes) (s : Numbers) (sound : Sound ps s) (d : ℕ) where
   by_object (Kept_directory listing) is = sym (none_held (get-descriptions s d ∙ ap (option_and_then description_of) is))
   by_object (Kept_file file) is = sym (none_held (get-descriptions s d ∙ ap (option_and_then description_of) is))
   by_object (Kept_pipe pipe) is = sym (none_held (get-descriptions s d ∙ ap (option_and_then description_of) is))
+  by_object (Kept_fixed fixed) is = sym (none_held (get-descriptions s d ∙ ap (option_and_then description_of) is))
   by_object Nothing is = sym (none_held (get-descriptions s d ∙ ap (option_and_then description_of) is))
 
   -- nor has what is not shown
@@ -35,6 +36,7 @@ module _ (ps : Processes) (s : Numbers) (sound : Sound ps s) (d : ℕ) where
   not_coming (Kept_directory listing) fits = refl
   not_coming (Kept_file file) fits = absurd fits
   not_coming (Kept_pipe pipe) fits = absurd fits
+  not_coming (Kept_fixed fixed) fits = absurd fits
   not_coming (Kept_description opened) fits = absurd fits
   not_coming Nothing fits = refl
 
@@ -42,6 +44,7 @@ module _ (ps : Processes) (s : Numbers) (sound : Sound ps s) (d : ℕ) where
   not_lost (Kept_directory listing) fits = refl
   not_lost (Kept_file file) fits = refl
   not_lost (Kept_pipe pipe) fits = refl
+  not_lost (Kept_fixed fixed) fits = refl
   not_lost (Kept_description opened) fits = absurd (let no : false ≡ true = fits in cc)
   not_lost Nothing fits = refl
 

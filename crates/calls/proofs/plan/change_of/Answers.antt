@@ -60,3 +60,27 @@ returns-in-Fork g c = via (ap (λ call. plan (own (g.L.Look.state c.args.look.no
 
 pub returns-in-Exit : goal.returns-in-Exit
 returns-in-Exit g c = via (ap (λ call. plan (own (g.L.Look.state c.args.look.now) c.args.pid call) call) c.in-Exit.is) (c.exit.ensures _)
+
+pub returns-in-Symlink : goal.returns-in-Symlink
+returns-in-Symlink g c = via (ap (λ call. plan (own (g.L.Look.state c.args.look.now) c.args.pid call) call) c.in-Symlink.is) (c.symlink.ensures c.args.pid)
+
+pub returns-in-Readlink : goal.returns-in-Readlink
+returns-in-Readlink g c = via (ap (λ call. plan (own (g.L.Look.state c.args.look.now) c.args.pid call) call) c.in-Readlink.is) (c.readlink.ensures c.args.pid)
+
+pub returns-in-Lstat : goal.returns-in-Lstat
+returns-in-Lstat g c = via (ap (λ call. plan (own (g.L.Look.state c.args.look.now) c.args.pid call) call) c.in-Lstat.is) (c.lstat.ensures c.args.pid)
+
+pub returns-in-Mknod : goal.returns-in-Mknod
+returns-in-Mknod g c = via (ap (λ call. plan (own (g.L.Look.state c.args.look.now) c.args.pid call) call) c.in-Mknod.is) (c.mknod.ensures c.args.pid)
+
+pub returns-in-Chmod : goal.returns-in-Chmod
+returns-in-Chmod g c = via (ap (λ call. plan (own (g.L.Look.state c.args.look.now) c.args.pid call) call) c.in-Chmod.is) (c.chmod.ensures c.args.pid)
+
+pub returns-in-Chown : goal.returns-in-Chown
+returns-in-Chown g c = via (ap (λ call. plan (own (g.L.Look.state c.args.look.now) c.args.pid call) call) c.in-Chown.is) (c.chown.ensures c.args.pid)
+
+pub returns-in-Fchmod : goal.returns-in-Fchmod
+returns-in-Fchmod g c = via (ap (λ call. plan (own (g.L.Look.state c.args.look.now) c.args.pid call) call) c.in-Fchmod.is) c.fchmod.ensures
+
+pub returns-in-Fchown : goal.returns-in-Fchown
+returns-in-Fchown g c = via (ap (λ call. plan (own (g.L.Look.state c.args.look.now) c.args.pid call) call) c.in-Fchown.is) c.fchown.ensures

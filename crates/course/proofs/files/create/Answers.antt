@@ -7,4 +7,4 @@ use Rattle.course.proofs.files.create.Goals as goal
 pub returns-clause-ran : goal.returns-clause-ran
 returns-clause-ran g c =
     let h = rw c.fresh.ensures at c.open-opened.ensures.ran in
-    goes (opening c.args.hand.now.pid c.args.path fresh) (if_there c.args.hand.now.pid c.args.again c.args.exclusive) h (by_pid (λ p. if_there p c.args.again c.args.exclusive c.open-opened.result) (ap (λ (b : ℕ × Shown). b.0) c.open-opened.ensures.bound) c.go_on.ensures.ran)
+    goes (opening c.args.hand.now.pid c.args.path fresh) (if_there c.args.hand.now.pid c.args.again c.args.exclusive c.args.rights) h (by_pid (λ p. if_there p c.args.again c.args.exclusive c.args.rights c.open-opened.result) (ap (λ (b : ℕ × Shown). b.0) c.open-opened.ensures.bound) c.go_on.ensures.ran)

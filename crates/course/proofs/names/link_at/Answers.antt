@@ -10,5 +10,5 @@ returns-in_err-look_for-clause-ran g c = stops (looking_for c.args.hand.now.pid 
 
 pub returns-clause-ran : goal.returns-clause-ran
 returns-clause-ran g c =
-    let h = rw (c.requires.from, c.requires.to) at c.link_to.ensures.ran in
+    let h = rw (c.requires.from, c.requires.to) at c.make_at.ensures.ran in
     goes_on (looking_for c.args.hand.now.pid c.args.from.first c.args.inode) _ c.in_ok-look_for.ensures.ran (by_pid (λ p. making p (call.Link c.args.from.first c.args.to.first) c.args.to.first) (ap (λ (b : ℕ × Shown). b.0) c.in_ok-look_for.ensures.bound) h)

@@ -6,7 +6,7 @@ use Rattle.course.proofs.Runs.{moved_off, stays_there}
 use Rattle.course.proofs.names.look_up.Goals as goal
 
 pub returns-in_err-check_place-clause-ran : goal.returns-in_err-check_place-clause-ran
-returns-in_err-check_place-clause-ran g c = moved_off c.args.hand.now.pid c.args.place (stating c.args.hand.now.pid (call.Stat c.args.path)) _ c.from_residual.ensures.1 c.in_err-check_place.ensures.ran
+returns-in_err-check_place-clause-ran g c = moved_off c.args.hand.now.pid c.args.place (stating c.args.hand.now.pid (call.Lstat c.args.path)) _ c.from_residual.ensures.1 c.in_err-check_place.ensures.ran
 
 pub returns-clause-ran : goal.returns-clause-ran
-returns-clause-ran g c = stays_there c.args.place (λ p. stating p (call.Stat c.args.path)) (ap (λ (b : ℕ × Shown). b.0) c.in_ok-check_place.ensures.bound) c.in_ok-check_place.ensures.ran c.stat_path.ensures.ran
+returns-clause-ran g c = stays_there c.args.place (λ p. stating p (call.Lstat c.args.path)) (ap (λ (b : ℕ × Shown). b.0) c.in_ok-check_place.ensures.bound) c.in_ok-check_place.ensures.ran c.stat_path.ensures.ran

@@ -1,4 +1,4 @@
-use Rattle.mount_requests.proofs.Ending.{create, find, link, list, list_anew, look, look_up, make, make_file, move_name, open_file, read, remove, set, write}
+use Rattle.mount_requests.proofs.Ending.{create, find, link, list, list_anew, look, look_up, make_directory, make_link, make_node, move_name, open_file, read, read_link, remove, set, write}
 use Rattle.mount_requests.proofs.laws.requests_end_at_aborts.Goals as goal
 
 pub returns : goal.returns
@@ -6,9 +6,11 @@ returns c = record {
   look = look;
   look_up = look_up;
   find = find;
+  read_link = read_link;
   set = set;
-  make = make;
-  make_file = make_file;
+  make_directory = make_directory;
+  make_link = make_link;
+  make_node = make_node;
   link = link;
   remove = remove;
   move = move_name;

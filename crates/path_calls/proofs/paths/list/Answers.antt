@@ -5,11 +5,14 @@ use Rattle.path_calls.proofs.paths.list.Goals as goal
 pub returns-in_err-place : goal.returns-in_err-place
 returns-in_err-place g c pid = place_stop c.args.path.now _ c.from_residual.ensures.1 c.in_err-place.ensures
 
+pub returns-in_err-must_not_be_link : goal.returns-in_err-must_not_be_link
+returns-in_err-must_not_be_link g c pid = place_go c.args.path.now _ c.in_ok-place.ensures (stops _ c.from_residual-in_err-must_not_be_link.ensures.1 (c.in_err-must_not_be_link.ensures _ _))
+
 pub returns-in_err-must_be_directory : goal.returns-in_err-must_be_directory
-returns-in_err-must_be_directory g c pid = place_go c.args.path.now _ c.in_ok-place.ensures (stops _ c.from_residual-in_err-must_be_directory.ensures.1 (c.in_err-must_be_directory.ensures _ _))
+returns-in_err-must_be_directory g c pid = place_go c.args.path.now _ c.in_ok-place.ensures (goes _ (c.in_ok-must_not_be_link.ensures _ _) (stops _ c.from_residual-in_err-must_be_directory.ensures.1 (c.in_err-must_be_directory.ensures _ _)))
 
 pub returns-in_err-entries : goal.returns-in_err-entries
-returns-in_err-entries g c pid = place_go c.args.path.now _ c.in_ok-place.ensures (goes _ (c.in_ok-must_be_directory.ensures _ _) (stops _ c.from_residual-in_err-entries.ensures.1 c.in_err-entries.ensures))
+returns-in_err-entries g c pid = place_go c.args.path.now _ c.in_ok-place.ensures (goes _ (c.in_ok-must_not_be_link.ensures _ _) (goes _ (c.in_ok-must_be_directory.ensures _ _) (stops _ c.from_residual-in_err-entries.ensures.1 c.in_err-entries.ensures)))
 
 pub returns : goal.returns
-returns g c pid = place_go c.args.path.now _ c.in_ok-place.ensures (goes _ (c.in_ok-must_be_directory.ensures _ _) (goes _ c.in_ok-entries.ensures (c.unchanged.ensures _ _)))
+returns g c pid = place_go c.args.path.now _ c.in_ok-place.ensures (goes _ (c.in_ok-must_not_be_link.ensures _ _) (goes _ (c.in_ok-must_be_directory.ensures _ _) (goes _ c.in_ok-entries.ensures (c.unchanged.ensures _ _))))

@@ -1,8 +1,12 @@
+use Rattle.walk.proofs.Laws.{goes, stops}
 use Rattle.path_calls.proofs.Binds.{place_go, place_stop}
 use Rattle.path_calls.proofs.stats.stat.Goals as goal
 
 pub returns-in_err-place : goal.returns-in_err-place
 returns-in_err-place g c pid = place_stop c.args.path.now _ c.from_residual.ensures.1 c.in_err-place.ensures
 
+pub returns-in_err-must_not_be_link : goal.returns-in_err-must_not_be_link
+returns-in_err-must_not_be_link g c pid = place_go c.args.path.now _ c.in_ok-place.ensures (stops _ c.from_residual-in_err-must_not_be_link.ensures.1 (c.in_err-must_not_be_link.ensures _ _))
+
 pub returns : goal.returns
-returns g c pid = place_go c.args.path.now _ c.in_ok-place.ensures c.status.ensures
+returns g c pid = place_go c.args.path.now _ c.in_ok-place.ensures (goes _ (c.in_ok-must_not_be_link.ensures _ _) c.status.ensures)

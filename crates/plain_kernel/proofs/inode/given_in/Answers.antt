@@ -14,5 +14,10 @@ returns-in-Pipe c =
     sym (get-empty name_cmp c.args.name.now) ∙ ap (λ t. get (names_of_inode (Some (inode_of t))) c.args.name.now) (sym c.in-Pipe.is) ∙ ap (λ i. get (names_of_inode (Some i)) c.args.name.now) c.inode.view_is
     ∙ ap (λ o. get (names_of_inode (option_copied o)) c.args.name.now) (sym c.in-Some.is)
 
+pub returns-in-Fixed : goal.returns-in-Fixed
+returns-in-Fixed c =
+    sym (get-empty name_cmp c.args.name.now) ∙ ap (λ t. get (names_of_inode (Some (inode_of t))) c.args.name.now) (sym c.in-Fixed.is) ∙ ap (λ i. get (names_of_inode (Some i)) c.args.name.now) c.inode.view_is
+    ∙ ap (λ o. get (names_of_inode (option_copied o)) c.args.name.now) (sym c.in-Some.is)
+
 pub returns-in-None : goal.returns-in-None
 returns-in-None c = sym (get-empty name_cmp c.args.name.now) ∙ ap (λ o. get (names_of_inode (option_copied o)) c.args.name.now) (sym c.in-None.is)

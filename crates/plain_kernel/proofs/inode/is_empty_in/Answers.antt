@@ -16,5 +16,10 @@ returns-in-Pipe c =
     is_empty-keys ∙ ap (λ t. is_empty (keys (names_of_inode (Some (inode_of t))))) (sym c.in-Pipe.is) ∙ ap (λ i. is_empty (keys (names_of_inode (Some i)))) c.inode.view_is
     ∙ ap (λ o. is_empty (keys (names_of_inode (option_copied o)))) (sym c.in-Some.is)
 
+pub returns-in-Fixed : goal.returns-in-Fixed
+returns-in-Fixed c =
+    is_empty-keys ∙ ap (λ t. is_empty (keys (names_of_inode (Some (inode_of t))))) (sym c.in-Fixed.is) ∙ ap (λ i. is_empty (keys (names_of_inode (Some i)))) c.inode.view_is
+    ∙ ap (λ o. is_empty (keys (names_of_inode (option_copied o)))) (sym c.in-Some.is)
+
 pub returns-in-None : goal.returns-in-None
 returns-in-None c = is_empty-keys ∙ ap (λ o. is_empty (keys (names_of_inode (option_copied o)))) (sym c.in-None.is)

@@ -11,5 +11,8 @@ returns-in-File c = λ n. omega (arith, none_given n ∙ ap (λ t. given_by n (i
 pub returns-in-Pipe : goal.returns-in-Pipe
 returns-in-Pipe c = λ n. omega (arith, none_given n ∙ ap (λ t. given_by n (inode_of t)) (sym c.in-Pipe.is) ∙ ap (given_by n) c.inode.view_is ∙ ap (λ o. times_given n (names_of_inode o)) (sym c.in-Some.is))
 
+pub returns-in-Fixed : goal.returns-in-Fixed
+returns-in-Fixed c = λ n. omega (arith, none_given n ∙ ap (λ t. given_by n (inode_of t)) (sym c.in-Fixed.is) ∙ ap (given_by n) c.inode.view_is ∙ ap (λ o. times_given n (names_of_inode o)) (sym c.in-Some.is))
+
 pub returns-in-None : goal.returns-in-None
 returns-in-None c = λ n. omega (arith, none_given n ∙ ap (λ o. times_given n (names_of_inode o)) (sym c.in-None.is))

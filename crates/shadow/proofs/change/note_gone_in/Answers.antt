@@ -67,3 +67,17 @@ returns-in-Pipe-clause-added c =
     (λ is. let more : added_by c.note_first_gone-in-Pipe.new.contents ≤ added_by c.args.contents.now + 0 =
     added_first true c.args.name None c.note_first_gone-in-Pipe.new.contents is (added_by c.args.contents.now) in omega (arith, more))
     c.note_first_gone-in-Pipe.ensures.ok
+
+pub returns-in-Fixed-clause-contents : goal.returns-in-Fixed-clause-contents
+returns-in-Fixed-clause-contents c =
+    ok_so c.note_first_gone-in-Fixed.result
+    (λ is o. named_first true c.args.name None c.note_first_gone-in-Fixed.new.contents is o
+    ∙ ap (λ (d : Contents). name_noted c.args.name None (patched d o)) (sym c.in-Fixed.is))
+    c.note_first_gone-in-Fixed.ensures.ok
+
+pub returns-in-Fixed-clause-added : goal.returns-in-Fixed-clause-added
+returns-in-Fixed-clause-added c =
+    ok_so c.note_first_gone-in-Fixed.result
+    (λ is. let more : added_by c.note_first_gone-in-Fixed.new.contents ≤ added_by c.args.contents.now + 0 =
+    added_first true c.args.name None c.note_first_gone-in-Fixed.new.contents is (added_by c.args.contents.now) in omega (arith, more))
+    c.note_first_gone-in-Fixed.ensures.ok

@@ -56,3 +56,16 @@ returns-in-Pipe-clause-added c =
     ok_so c.note_first-in-Pipe.result
     (λ is. added_first true c.args.name c.args.given c.note_first-in-Pipe.new.contents is _)
     c.note_first-in-Pipe.ensures.ok
+
+pub returns-in-Fixed-clause-contents : goal.returns-in-Fixed-clause-contents
+returns-in-Fixed-clause-contents c =
+    ok_so c.note_first-in-Fixed.result
+    (λ is o. named_first true c.args.name c.args.given c.note_first-in-Fixed.new.contents is o
+    ∙ ap (λ (d : Contents). name_noted c.args.name c.args.given (patched d o)) (sym c.in-Fixed.is))
+    c.note_first-in-Fixed.ensures.ok
+
+pub returns-in-Fixed-clause-added : goal.returns-in-Fixed-clause-added
+returns-in-Fixed-clause-added c =
+    ok_so c.note_first-in-Fixed.result
+    (λ is. added_first true c.args.name c.args.given c.note_first-in-Fixed.new.contents is _)
+    c.note_first-in-Fixed.ensures.ok

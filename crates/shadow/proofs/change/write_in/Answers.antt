@@ -31,3 +31,9 @@ returns-in-Pipe-clause-numbers c =
     ok_so c.write_first-in-Pipe.result
     (behind_none (numbers_in c.args.contents.now) (numbers_in c.write_first-in-Pipe.new.contents) (blocks c.args.offset (length c.args.bytes.now)) (ap numbers_in c.in-Pipe.is))
     c.write_first-in-Pipe.ensures.numbers
+
+pub returns-in-Fixed-clause-numbers : goal.returns-in-Fixed-clause-numbers
+returns-in-Fixed-clause-numbers c =
+    ok_so c.write_first-in-Fixed.result
+    (behind_none (numbers_in c.args.contents.now) (numbers_in c.write_first-in-Fixed.new.contents) (blocks c.args.offset (length c.args.bytes.now)) (ap numbers_in c.in-Fixed.is))
+    c.write_first-in-Fixed.ensures.numbers

@@ -1,5 +1,8 @@
 use Rattle.std.proofs.Common.{◌≡◌, ◌∙◌, ap, is_some, sym, subst}
 use Rattle.model.specs.FiniteMap.{entries, get}
+use Rattle.model.proofs.Laws.{get_other, get_same}
+use Rattle.store.specs.Numbers.{Numbers, present}
+use Rattle.store.specs.declared.Object.TheVariants.{Fixed}
 use Rattle.store.specs.Laid.{laid_listing}
 use Rattle.store.specs.Places.{altered, with_listing}
 use Rattle.store.proofs.Laws.{MayBeNamed}
@@ -39,3 +42,15 @@ pub returns-after-is_some-clause-others : goal.returns-after-is_some-clause-othe
 returns-after-is_some-clause-others c =
     laid_elsewhere c.args.store.now c.if-is_some.store c.lay.new.self c.args.num (is_some c.args.change.made) c.in-Names.names c.args.change.promised (shown c.before)
     (c.lay.ensures.laid ∙ ap (λ gs. altered (with_listing (laid_listing gs c.args.change.promised)) c.if-is_some.store c.args.num) (ap entries c.into_given.ensures))
+
+-- what never changes is shown as it is
+pub returns-in-Fixed-clause-here : goal.returns-in-Fixed-clause-here
+returns-in-Fixed-clause-here c =
+    subst (λ w. IsCarriedBy c.args.change w (get c.args.store.now.places c.args.num) (get c.install_as.new.self.places c.args.num)) (sym c.in-Fixed.is)
+    (ap (λ (t : Numbers). get t.places c.args.num) c.install_as.ensures.installed
+    ∙ get_same c.args.store.now.places c.args.num (present (Fixed c.in-Fixed.fixed)))
+
+pub returns-in-Fixed-clause-others : goal.returns-in-Fixed-clause-others
+returns-in-Fixed-clause-others c = λ n away.
+    ap (λ (t : Numbers). get t.places n) c.install_as.ensures.installed
+    ∙ get_other c.args.store.now.places c.args.num n (present (Fixed c.in-Fixed.fixed)) away

@@ -20,13 +20,16 @@ lay_inode-requires c = first_ready c.in-Some.num c.in-Some.change c.next.new.sel
 pub loop-num-preserved : goal.loop-num-preserved
 loop-num-preserved c =
     carries_on c.args.store.now c.loop-num.store c.args.inodes c.in-Some.num c.in-Some.change c.next.new.self (left c.before) c.lay_inode.new.store
-    c.lay_inode.ensures.root c.lay_inode.ensures.here c.lay_inode.ensures.others
+    c.lay_inode.ensures.root c.lay_inode.ensures.rights c.lay_inode.ensures.here c.lay_inode.ensures.others
 
 made : (c : goal.After-drop-num-iterator) → AreCarried c.args.inodes c.args.store.now c.loop-num.store
 made c = all_carried c.args.store.now c.loop-num.store c.args.inodes (subst (Carries c.args.store.now c.loop-num.store c.args.inodes) c.in-None.ensures.steps.0 c.loop-num.invariant)
 
 pub returns-clause-root : goal.returns-clause-root
 returns-clause-root c = (made c).root
+
+pub returns-clause-rights : goal.returns-clause-rights
+returns-clause-rights c = (made c).rights
 
 pub returns-clause-places : goal.returns-clause-places
 returns-clause-places c = (made c).places

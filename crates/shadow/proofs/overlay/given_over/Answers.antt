@@ -11,6 +11,9 @@ returns-in-Bytes c = λ o same. sym (get-empty name_cmp c.args.name.now) ∙ ap 
 pub returns-in-Pipe : goal.returns-in-Pipe
 returns-in-Pipe c = λ o same. sym (get-empty name_cmp c.args.name.now) ∙ ap (λ t. get (names_of_inode (patched t o)) c.args.name.now) (sym c.in-Pipe.is)
 
+pub returns-in-Fixed : goal.returns-in-Fixed
+returns-in-Fixed c = λ o same. sym (get-empty name_cmp c.args.name.now) ∙ ap (λ t. get (names_of_inode (patched t o)) c.args.name.now) (sym c.in-Fixed.is)
+
 pub returns-in-Some : goal.returns-in-Some
 returns-in-Some c = given_told _ c.in-Names.is_fresh c.in-Names.names c.args.name.now (Some c.in-Some.given) _ _ c.in-Names.is (sym c.in-Some.is ∙ c.look.ensures) (λ o same. refl)
 

@@ -18,6 +18,9 @@ returns-in-Bytes c = λ o same. empty_has_none ∙ ap (λ t. is_empty (keys (nam
 pub returns-in-Pipe : goal.returns-in-Pipe
 returns-in-Pipe c = λ o same. empty_has_none ∙ ap (λ t. is_empty (keys (names_of_inode (patched t o)))) (sym c.in-Pipe.is)
 
+pub returns-in-Fixed : goal.returns-in-Fixed
+returns-in-Fixed c = λ o same. empty_has_none ∙ ap (λ t. is_empty (keys (names_of_inode (patched t o)))) (sym c.in-Fixed.is)
+
 pub returns-in-Names-true-default : goal.returns-in-Names-true-default
 returns-in-Names-true-default c =
     let is : c.args.contents.now ≡ Names true c.in-Names-true-default.names = search rules in

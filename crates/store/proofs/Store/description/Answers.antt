@@ -16,6 +16,9 @@ returns-in-Some-File c = sym (get-descriptions c.args.self.now c.args.num ∙ ap
 pub returns-in-Some-Pipe : goal.returns-in-Some-Pipe
 returns-in-Some-Pipe c = sym (get-descriptions c.args.self.now c.args.num ∙ ap (option_and_then description_of) (sym c.in-Some-Pipe.ensures.object) ∙ ap description_of c.in-Some-Pipe.field-0-is)
 
+pub returns-in-Some-Fixed : goal.returns-in-Some-Fixed
+returns-in-Some-Fixed c = sym (get-descriptions c.args.self.now c.args.num ∙ ap (option_and_then description_of) (sym c.in-Some-Fixed.ensures.object) ∙ ap description_of c.in-Some-Fixed.field-0-is)
+
 pub returns-in-Some-Nothing : goal.returns-in-Some-Nothing
 returns-in-Some-Nothing c = sym (get-descriptions c.args.self.now c.args.num ∙ ap (option_and_then description_of) (sym c.in-Some-Nothing.ensures.object) ∙ ap description_of c.in-Some-Nothing.field-0-is)
 

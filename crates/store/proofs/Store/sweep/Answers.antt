@@ -1,10 +1,8 @@
 use Rattle.std.proofs.Common.{◌≡◌, true, cond, sym, ap, ◌∙◌}
-use Rattle.store.specs.Headers.{places_of}
-use Rattle.store.specs.Numbers.{Numbers}
 use Rattle.store.specs.Places.{is_over}
 use Rattle.model.specs.FiniteMap as map
 use Rattle.store.proofs.Counted.{counted-over}
-use Rattle.store.proofs.Rows.{places-remove, slot, with_places}
+use Rattle.store.proofs.Rows.{slot, store-freed}
 use Rattle.store.proofs.Changes.{without_place}
 use Rattle.store.proofs.Store.sweep.Goals as goal
 
@@ -16,7 +14,7 @@ returns-then-is_over_at c =
     let s = c.args.self.now in
     let over : is_over (map.get s.places c.args.num) ≡ true
     = ap is_over (sym (slot _ c.self.inside.headers _ c.self.view_is _ _ c.num.view_is)) ∙ sym c.is_over_at.ensures ∙ c.if-is_over_at.true in
-    ap (with_places c.self.inside.root) (places-remove _ _ _ c.free_at.ensures) ∙ ap (λ n. without_place (with_places c.self.inside.root (places_of c.self.inside.headers)) n) c.num.view_is ∙ ap (λ (s : Numbers). without_place s c.args.num) c.self.view_is ∙ sym (ap (λ b. cond b (without_place s c.args.num) s) over)
+    store-freed _ _ _ _ c.self.view_is _ _ c.num.view_is c.free_at.ensures ∙ sym (ap (λ b. cond b (without_place s c.args.num) s) over)
 
 pub returns-else-is_over_at : goal.returns-else-is_over_at
 returns-else-is_over_at c =

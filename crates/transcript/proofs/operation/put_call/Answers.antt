@@ -53,6 +53,30 @@ returns-in-Rmdir g c = Prints-as c.put_path-in-Rmdir.ensures (search rules)
 pub returns-in-List : goal.returns-in-List
 returns-in-List g c = Prints-as c.put_path-in-List.ensures (search rules)
 
+pub returns-in-Symlink : goal.returns-in-Symlink
+returns-in-Symlink g c = Prints-as c.put_paths-in-Symlink.ensures (search rules)
+
+pub returns-in-Readlink : goal.returns-in-Readlink
+returns-in-Readlink g c = Prints-as c.put_path-in-Readlink.ensures (search rules)
+
+pub returns-in-Lstat : goal.returns-in-Lstat
+returns-in-Lstat g c = Prints-as c.put_path-in-Lstat.ensures (search rules)
+
+pub returns-in-Mknod : goal.returns-in-Mknod
+returns-in-Mknod g c = Prints-as c.put_mknod.ensures (search rules)
+
+pub returns-in-Chmod : goal.returns-in-Chmod
+returns-in-Chmod g c = Prints-as c.put_chmod.ensures (search rules)
+
+pub returns-in-Chown : goal.returns-in-Chown
+returns-in-Chown g c = Prints-as c.put_chown.ensures (search rules)
+
+pub returns-in-Fchmod : goal.returns-in-Fchmod
+returns-in-Fchmod g c = Prints-as c.put_fchmod.ensures (search rules)
+
+pub returns-in-Fchown : goal.returns-in-Fchown
+returns-in-Fchown g c = Prints-as c.put_fchown.ensures (search rules)
+
 pub returns-in-Dup : goal.returns-in-Dup
 returns-in-Dup g c = Prints-as c.put_number-in-Dup.ensures (search rules)
 

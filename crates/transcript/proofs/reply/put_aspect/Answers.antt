@@ -28,3 +28,9 @@ returns-in-Front g c = Prints-as c.put_word-in-Front.ensures (search rules)
 
 pub returns-in-Back : goal.returns-in-Back
 returns-in-Back g c = Prints-as c.put_word-in-Back.ensures (search rules)
+
+pub returns-in-Target : goal.returns-in-Target
+returns-in-Target g c = Prints-as c.put_word-in-Target.ensures (search rules)
+
+pub returns-in-Rights : goal.returns-in-Rights
+returns-in-Rights g c = Prints-as c.put_word-in-Rights.ensures (search rules)

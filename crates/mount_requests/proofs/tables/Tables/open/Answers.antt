@@ -10,5 +10,5 @@ returns-in_err-opening-clause-answers g c =
 pub returns-clause-answers : goal.returns-clause-answers
 returns-clause-answers g c =
     let h = rw c.pid.ensures at c.in_ok-opening.ensures in
-    let k = rw c.cuts.ensures at c.open_as.ensures.answers in
+    let k = rw c.cut_by.ensures at c.open_as.ensures.answers in
     by_plan h k

@@ -14,5 +14,5 @@ returns-in_default g c = record {
   sound = c.outcome.ensures.sound;
   answered = answered_other c.args.operation c.in_default.not-Forget c.in_default.not-BatchForget c.in_default.not-Interrupt;
   in_view = c.outcome.ensures.in_view;
-  told = told_other (seen c.args.self.now.tables) (seen c.outcome.new.self.tables) c.args.caller.node c.args.operation _ _ c.outcome.result c.in_default.not-Forget c.in_default.not-BatchForget c.in_default.not-Interrupt (answered_by (seen c.args.self.now.tables) (seen c.outcome.new.self.tables) c.args.caller.node c.args.operation c.outcome.result c.outcome.ensures.served);
+  told = told_other (seen c.args.self.now.tables) (seen c.outcome.new.self.tables) c.args.caller c.args.operation _ _ c.outcome.result c.in_default.not-Forget c.in_default.not-BatchForget c.in_default.not-Interrupt (answered_by (seen c.args.self.now.tables) (seen c.outcome.new.self.tables) c.args.caller c.args.operation c.outcome.result c.outcome.ensures.served);
 }

@@ -20,7 +20,7 @@ returns-in-Ok-clause-begins g c =
     (begun_known (seen c.args.self.now.tables) (seen c.begin_by.new.self.tables) c.args.name.now c.first_process.result c.in_ok-level.level
     (c.begin_by.ensures.rest ∙ same_those (seen c.args.self.now.tables) c.in_ok-view.ensures.each names c.in_ok-view.ensures.next refl)
     c.in-Ok.pid started c.start.ensures.numbers c.start.ensures.next assigned)
-    (c.entry_of_node.ensures ∙ c.root_node.ensures ∙ ap root_node c.in_ok-view.ensures.number)
+    (c.entry_of_node.ensures.node ∙ c.root_node.ensures ∙ ap root_node c.in_ok-view.ensures.number)
 
 pub returns-in-Ok-clause-sound : goal.returns-in-Ok-clause-sound
 returns-in-Ok-clause-sound g c =

@@ -1,6 +1,6 @@
 use Rattle.std.proofs.Common.{ap, ◌∙◌}
 use Rattle.model.specs.Changes.{set_name}
-use Rattle.plain_kernel.proofs.Edited.{edited, makes_directory, makes_file, moves, names_file, unnames_directory, unnames_file}
+use Rattle.plain_kernel.proofs.Edited.{edited, makes_directory, makes_file, makes_fixed, moves, names_file, unnames_directory, unnames_file}
 use Rattle.plain_kernel.proofs.Setting.{if_ok}
 use Rattle.plain_kernel.proofs.plain.PlainKernel.apply.Goals as goal
 
@@ -9,6 +9,9 @@ returns-in-MakeDirectory c = if_ok c.make.result c.make.ensures (λ h. edited _ 
 
 pub returns-in-MakeFile : goal.returns-in-MakeFile
 returns-in-MakeFile c = if_ok c.make-in-MakeFile.result c.make-in-MakeFile.ensures (λ h. edited _ _ _ _ _ c.in-MakeFile.is (makes_file _ _ _ _ _ _ _ _ _ c.made-in-MakeFile.ensures c.file-inode.ensures c.new-in-MakeFile.ensures h))
+
+pub returns-in_ok-try_clone-in-MakeFixed : goal.returns-in_ok-try_clone-in-MakeFixed
+returns-in_ok-try_clone-in-MakeFixed c = if_ok c.make-in-MakeFixed.result c.make-in-MakeFixed.ensures (λ h. edited _ _ _ _ _ c.in-MakeFixed.is (makes_fixed _ _ _ _ _ _ _ _ _ _ c.made-in-MakeFixed.ensures c.fixed-inode.ensures c.in_ok-try_clone-in-MakeFixed.ensures h))
 
 pub returns-in-NameFile : goal.returns-in-NameFile
 returns-in-NameFile c = if_ok c.set_name.result c.set_name.ensures (λ h. edited _ _ _ _ _ c.in-NameFile.is (names_file _ _ _ _ _ _ h))

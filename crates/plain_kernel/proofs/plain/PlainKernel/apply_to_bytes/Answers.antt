@@ -1,4 +1,4 @@
-use Rattle.plain_kernel.proofs.Edited.{appends, cut_ends, cuts, edited, put_ends, puts, takes}
+use Rattle.plain_kernel.proofs.Edited.{appends, cut_ends, cuts, edited, put_ends, puts, sets_rights, takes}
 use Rattle.plain_kernel.proofs.Setting.{if_ok}
 use Rattle.plain_kernel.proofs.plain.PlainKernel.apply_to_bytes.Goals as goal
 
@@ -13,6 +13,9 @@ returns-in-Take c = if_ok c.take.result c.take.ensures (λ h. edited _ _ _ _ _ c
 
 pub returns-in-Append : goal.returns-in-Append
 returns-in-Append c = if_ok c.append.result c.append.ensures (λ h. edited _ _ _ _ _ c.in-Append.is (appends _ _ _ _ _ _ c.as_slice-in-Append.ensures h))
+
+pub returns-in-SetRights : goal.returns-in-SetRights
+returns-in-SetRights c = if_ok c.set_rights.result c.set_rights.ensures (λ h. edited _ _ _ _ _ c.in-SetRights.is (sets_rights _ _ _ _ _ h))
 
 pub put-requires : goal.put-requires
 put-requires c = put_ends _ _ _ _ _ _ c.in-PutBytes.is c.as_slice.ensures c.requires.within

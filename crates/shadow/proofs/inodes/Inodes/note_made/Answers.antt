@@ -8,11 +8,8 @@ use Rattle.shadow.proofs.inodes.Inodes.note_made.Goals as goal
 pub note_made-requires : goal.note_made-requires
 note_made-requires c =
     let was : kept_at c.self.inside.each.entries c.args.num ≡ Some c.in-Some.change.now = sym c.in-Some.ensures.value in
-    record {
-      named = c.requires.named;
-      count = subst (λ (o : Option InodeChange). (net_of o).named + 1 < 2 ^ 64)
-          (ap (λ (es : List (ℕ × InodeChange)). kept_at es c.args.num) (sym c.self.view_is) ∙ was) c.requires.count;
-    }
+    subst (λ (o : Option InodeChange). (net_of o).named + 1 < 2 ^ 64)
+    (ap (λ (es : List (ℕ × InodeChange)). kept_at es c.args.num) (sym c.self.view_is) ∙ was) c.requires.count
 
 pub returns : goal.returns
 returns c =

@@ -34,6 +34,12 @@ returns-in-Append-clause-ok c =
     (append_taken c.args.chosen.now c.args.self.now c.append-noted.new.self c.in-Append.pipe c.in-Append.bytes t))
     c.append-noted.ensures.ok
 
+pub returns-in-SetRights-clause-ok : goal.returns-in-SetRights-clause-ok
+returns-in-SetRights-clause-ok c =
+    ok_so c.set_rights.result
+    (λ t. subst (λ (e : Edit). TakesIn c.args.chosen.now e c.args.self.now c.set_rights.new.self) (sym c.in-SetRights.is) (t c.args.chosen.now))
+    c.set_rights.ensures.ok
+
 pub returns-in-MakePipe-clause-ok : goal.returns-in-MakePipe-clause-ok
 returns-in-MakePipe-clause-ok c =
     let chosen : List ℕ = c.args.chosen.now in

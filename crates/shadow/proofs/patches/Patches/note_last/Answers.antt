@@ -10,7 +10,7 @@ use Rattle.shadow.proofs.patches.Patches.note_last.Goals as goal
 pub returns-in-SetOffset : goal.returns-in-SetOffset
 returns-in-SetOffset c =
     let was = c.self.inside in
-    let old : Patches = record { inodes = was.inodes; openings = was.openings; slots = was.slots; unnamed_inodes = was.unnamed_inodes.items } in
+    let old : Patches = record { inodes = was.inodes; rights = was.rights; openings = was.openings; slots = was.slots; unnamed_inodes = was.unnamed_inodes.items } in
     let new : Patches = record old { openings = c.move_to.new.self } in
     subst (λ (e : Edit). TakesIn c.args.chosen.now e c.args.self.now new) (sym c.in-SetOffset.is)
     (subst (λ (p : Patches). TakesIn c.args.chosen.now (Set_offset c.in-SetOffset.description c.in-SetOffset.offset) p new) c.self.view_is
@@ -19,7 +19,7 @@ returns-in-SetOffset c =
 pub returns-in-OpenInode : goal.returns-in-OpenInode
 returns-in-OpenInode c =
     let was = c.self.inside in
-    let old : Patches = record { inodes = was.inodes; openings = was.openings; slots = was.slots; unnamed_inodes = was.unnamed_inodes.items } in
+    let old : Patches = record { inodes = was.inodes; rights = was.rights; openings = was.openings; slots = was.slots; unnamed_inodes = was.unnamed_inodes.items } in
     let new : Patches = record old { openings = c.open.new.self; slots = c.note.new.self } in
     let chosen : List ℕ = c.args.chosen.now in
     let last = subst (λ (e : Edit). (m : ℕ) × IsLast m e × (m + news e ≤ length chosen)) c.in-OpenInode.is c.requires.last in
@@ -36,7 +36,7 @@ returns-in-OpenInode c =
 pub returns-in-ClearSlot : goal.returns-in-ClearSlot
 returns-in-ClearSlot c =
     let was = c.self.inside in
-    let old : Patches = record { inodes = was.inodes; openings = was.openings; slots = was.slots; unnamed_inodes = was.unnamed_inodes.items } in
+    let old : Patches = record { inodes = was.inodes; rights = was.rights; openings = was.openings; slots = was.slots; unnamed_inodes = was.unnamed_inodes.items } in
     let new : Patches = record old { slots = c.note-in-ClearSlot.new.self } in
     subst (λ (e : Edit). TakesIn c.args.chosen.now e c.args.self.now new) (sym c.in-ClearSlot.is)
     (subst (λ (p : Patches). TakesIn c.args.chosen.now (Clear_slot c.in-ClearSlot.process c.in-ClearSlot.descriptor c.in-ClearSlot.pipes) p new) c.self.view_is
@@ -45,7 +45,7 @@ returns-in-ClearSlot c =
 pub returns-in-ShareSlot : goal.returns-in-ShareSlot
 returns-in-ShareSlot c =
     let was = c.self.inside in
-    let old : Patches = record { inodes = was.inodes; openings = was.openings; slots = was.slots; unnamed_inodes = was.unnamed_inodes.items } in
+    let old : Patches = record { inodes = was.inodes; rights = was.rights; openings = was.openings; slots = was.slots; unnamed_inodes = was.unnamed_inodes.items } in
     let new : Patches = record old { slots = c.note-in-ShareSlot.new.self } in
     subst (λ (e : Edit). TakesIn c.args.chosen.now e c.args.self.now new) (sym c.in-ShareSlot.is)
     (subst (λ (p : Patches). TakesIn c.args.chosen.now (Share_slot c.in-ShareSlot.process c.in-ShareSlot.descriptor c.in-ShareSlot.description c.in-ShareSlot.pipes) p new) c.self.view_is

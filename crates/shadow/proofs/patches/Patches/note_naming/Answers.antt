@@ -3,7 +3,7 @@ use Rattle.std.proofs.lemmas.List.{get_or_read}
 use Rattle.model.specs.Changes.{Edit, news}
 use Rattle.shadow.specs.Steps.{IsNaming, TakesIn, new_in}
 use Rattle.shadow.specs.declared.change.Made.TheVariants.{Directory as A_directory, File as A_file}
-use Rattle.shadow.proofs.noting.UnusedNumbers.{directory_taken, file_taken}
+use Rattle.shadow.proofs.noting.UnusedNumbers.{directory_taken, file_taken, fixed_taken}
 use Rattle.shadow.proofs.shared.Outcomes.{ok_so}
 use Rattle.shadow.proofs.patches.Patches.note_naming.Goals as goal
 
@@ -28,6 +28,17 @@ returns-in-MakeFile-clause-ok c =
     (λ t. subst (λ (e : Edit). TakesIn chosen e c.args.self.now c.make-in-MakeFile.new.self) (sym c.in-MakeFile.is)
     (file_taken chosen c.args.self.now c.make-in-MakeFile.new.self c.in-MakeFile.parent c.index-chosen-0-in-MakeFile.result c.in-MakeFile.index c.in-MakeFile.name (subst IsNaming c.in-MakeFile.is c.requires.naming) at t))
     c.make-in-MakeFile.ensures.ok
+
+pub returns-in-MakeFixed-clause-ok : goal.returns-in-MakeFixed-clause-ok
+returns-in-MakeFixed-clause-ok c =
+    let chosen : List ℕ = c.args.chosen.now in
+    let count = subst (λ (e : Edit). news e ≤ length chosen) c.in-MakeFixed.is c.requires.count in
+    let low : 0 < length chosen = omega (arith, count) in
+    let at : c.index-chosen-0-in-MakeFixed.result ≡ new_in chosen 0 = get_or_read chosen 0 c.index-chosen-0-in-MakeFixed.result low c.index-chosen-0-in-MakeFixed.is 0 in
+    ok_so c.make-in-MakeFixed.result
+    (λ t. subst (λ (e : Edit). TakesIn chosen e c.args.self.now c.make-in-MakeFixed.new.self) (sym c.in-MakeFixed.is)
+    (fixed_taken chosen c.args.self.now c.make-in-MakeFixed.new.self c.in-MakeFixed.parent c.index-chosen-0-in-MakeFixed.result c.in-MakeFixed.index c.in-MakeFixed.name c.in-MakeFixed.fixed (subst IsNaming c.in-MakeFixed.is c.requires.naming) at t))
+    c.make-in-MakeFixed.ensures.ok
 
 pub returns-in-NameFile-clause-ok : goal.returns-in-NameFile-clause-ok
 returns-in-NameFile-clause-ok c =

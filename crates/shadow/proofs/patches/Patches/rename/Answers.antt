@@ -10,7 +10,7 @@ use Rattle.shadow.proofs.patches.Patches.rename.Goals as goal
 pub returns-in-None-clause-ok : goal.returns-in-None-clause-ok
 returns-in-None-clause-ok c =
     let was = c.self.inside in
-    let old : Patches = record { inodes = was.inodes; openings = was.openings; slots = was.slots; unnamed_inodes = was.unnamed_inodes.items } in
+    let old : Patches = record { inodes = was.inodes; rights = was.rights; openings = was.openings; slots = was.slots; unnamed_inodes = was.unnamed_inodes.items } in
     let mid : Patches = record old { inodes = c.make_place-2.new.self } in
     let new : Patches = record old { inodes = c.note_names.new.self } in
     let edit = Move c.args.from c.args.old.now c.args.to c.args.new c.args.num c.args.replaced in
@@ -18,16 +18,16 @@ returns-in-None-clause-ok c =
     ok_so c.note_names.result
     (λ moved chosen. subst (λ (p : Patches). TakesIn chosen edit p new) c.self.view_is
     (same_then_takes chosen edit old mid new
-    (only_inodes old mid (same_inodes was.inodes c.make_place.new.self c.make_place-2.new.self c.make_place.ensures.same c.make_place-2.ensures.same) refl refl refl)
+    (only_inodes old mid (same_inodes was.inodes c.make_place.new.self c.make_place-2.new.self c.make_place.ensures.same c.make_place-2.ensures.same) refl refl refl refl)
     (moving_takes chosen c.args.from c.args.old.now c.args.to c.args.new c.args.num c.args.replaced c.note_names.new.self mid new moved
     (λ n. subst (λ ns. Losing ns n (net_at c.note_names.new.self n) (net_at c.note_names.new.self n)) (sym none) (losing_none n (net_at c.note_names.new.self n)))
-    refl refl (sym (ap (λ ns. was.unnamed_inodes.items ++ ns) none ∙ append-nil was.unnamed_inodes.items)))))
+    refl refl refl (sym (ap (λ ns. was.unnamed_inodes.items ++ ns) none ∙ append-nil was.unnamed_inodes.items)))))
     c.note_names.ensures.ok
 
 pub returns-in_ok-note_names-in-Some-clause-ok : goal.returns-in_ok-note_names-in-Some-clause-ok
 returns-in_ok-note_names-in-Some-clause-ok c chosen =
     let was = c.self.inside in
-    let old : Patches = record { inodes = was.inodes; openings = was.openings; slots = was.slots; unnamed_inodes = was.unnamed_inodes.items } in
+    let old : Patches = record { inodes = was.inodes; rights = was.rights; openings = was.openings; slots = was.slots; unnamed_inodes = was.unnamed_inodes.items } in
     let mid : Patches = record old { inodes = c.make_unnamed.new.self } in
     let new : Patches = record old { inodes = c.note_unnamed.new.self; unnamed_inodes = c.push.new.self.items } in
     let edit = Move c.args.from c.args.old.now c.args.to c.args.new c.args.num c.args.replaced in
@@ -38,10 +38,10 @@ returns-in_ok-note_names-in-Some-clause-ok c chosen =
     let places = same_inodes was.inodes c.make_place.new.self c.make_place-2.new.self c.make_place.ensures.same c.make_place-2.ensures.same in
     subst (λ (p : Patches). TakesIn chosen edit p new) c.self.view_is
     (same_then_takes chosen edit old mid new
-    (only_inodes old mid (same_inodes was.inodes c.make_place-2.new.self c.make_unnamed.new.self places c.make_unnamed.ensures.same) refl refl refl)
+    (only_inodes old mid (same_inodes was.inodes c.make_place-2.new.self c.make_unnamed.new.self places c.make_unnamed.ensures.same) refl refl refl refl)
     (moving_takes chosen c.args.from c.args.old.now c.args.to c.args.new c.args.num c.args.replaced c.note_names-in-Some.new.self mid new c.in_ok-note_names-in-Some.ensures.ok
     (λ n. subst (λ ns. Losing ns n (net_at c.note_names-in-Some.new.self n) (net_at c.note_unnamed.new.self n)) (sym some) (losing_at c.in-Some.unnamed c.note_names-in-Some.new.self c.note_unnamed.new.self c.note_unnamed.ensures n))
-    refl refl (pushed ∙ ap (λ ns. was.unnamed_inodes.items ++ ns) (sym some))))
+    refl refl refl (pushed ∙ ap (λ ns. was.unnamed_inodes.items ++ ns) (sym some))))
 
 pub note_unnamed-requires-clause-count : goal.note_unnamed-requires-clause-count
 note_unnamed-requires-clause-count c =

@@ -1,11 +1,18 @@
 use Rattle.shadow.proofs.committing.AllSteps.{can_commit, has_all, has_inodes, has_kept, has_state}
 use Rattle.shadow.proofs.committing.AllSteps.{holds_first, holds_second, is_sound}
 use Rattle.shadow.proofs.committing.Readiness.{ready, slots_alive}
+use Rattle.shadow.proofs.committing.RightsSteps.{can_set}
 use Rattle.shadow.proofs.shadow.Shadow.commit_into.Goals as goal
 
-pub lay_inodes-requires : goal.lay_inodes-requires
-lay_inodes-requires c =
+pub lay_inodes_with_rights-requires-clause-ready : goal.lay_inodes_with_rights-requires-clause-ready
+lay_inodes_with_rights-requires-clause-ready c =
     ready
+    (can_commit c.stable.invariant c.stable.view_is c.self.invariant c.self.view_is
+    c.patches.view_is c.requires.fits c.requires.covers)
+
+pub lay_inodes_with_rights-requires-clause-set : goal.lay_inodes_with_rights-requires-clause-set
+lay_inodes_with_rights-requires-clause-set c =
+    can_set
     (can_commit c.stable.invariant c.stable.view_is c.self.invariant c.self.view_is
     c.patches.view_is c.requires.fits c.requires.covers)
 
@@ -14,7 +21,11 @@ lay_openings-requires c =
     (has_inodes
     (can_commit c.stable.invariant c.stable.view_is c.self.invariant c.self.view_is
     c.patches.view_is c.requires.fits c.requires.covers)
-    (record { root = c.lay_inodes.ensures.root; places = c.lay_inodes.ensures.places })).coming
+    (record {
+      root = c.lay_inodes_with_rights.ensures.root;
+      rights = c.lay_inodes_with_rights.ensures.rights;
+      places = c.lay_inodes_with_rights.ensures.places;
+    })).coming
 
 pub lay_slots-requires : goal.lay_slots-requires
 lay_slots-requires c =
@@ -28,7 +39,11 @@ close_former-requires c = (
   (has_all
       (can_commit c.stable.invariant c.stable.view_is c.self.invariant c.self.view_is
       c.patches.view_is c.requires.fits c.requires.covers)
-      (record { root = c.lay_inodes.ensures.root; places = c.lay_inodes.ensures.places })
+      (record {
+        root = c.lay_inodes_with_rights.ensures.root;
+        rights = c.lay_inodes_with_rights.ensures.rights;
+        places = c.lay_inodes_with_rights.ensures.places;
+      })
       c.lay_openings.ensures c.lay_slots.ensures).holds,
 )
 
@@ -38,7 +53,11 @@ close_new-requires c = (
   holds_first
       (can_commit c.stable.invariant c.stable.view_is c.self.invariant c.self.view_is
       c.patches.view_is c.requires.fits c.requires.covers)
-      (record { root = c.lay_inodes.ensures.root; places = c.lay_inodes.ensures.places })
+      (record {
+        root = c.lay_inodes_with_rights.ensures.root;
+        rights = c.lay_inodes_with_rights.ensures.rights;
+        places = c.lay_inodes_with_rights.ensures.places;
+      })
       c.lay_openings.ensures c.lay_slots.ensures c.close_former.ensures,
 )
 
@@ -48,7 +67,11 @@ free_all-requires c = (
   holds_second
       (can_commit c.stable.invariant c.stable.view_is c.self.invariant c.self.view_is
       c.patches.view_is c.requires.fits c.requires.covers)
-      (record { root = c.lay_inodes.ensures.root; places = c.lay_inodes.ensures.places })
+      (record {
+        root = c.lay_inodes_with_rights.ensures.root;
+        rights = c.lay_inodes_with_rights.ensures.rights;
+        places = c.lay_inodes_with_rights.ensures.places;
+      })
       c.lay_openings.ensures c.lay_slots.ensures c.close_former.ensures c.close_new.ensures,
 )
 
@@ -57,7 +80,11 @@ invariant_of-stable c =
     is_sound
     (can_commit c.stable.invariant c.stable.view_is c.self.invariant c.self.view_is
     c.patches.view_is c.requires.fits c.requires.covers)
-    (record { root = c.lay_inodes.ensures.root; places = c.lay_inodes.ensures.places })
+    (record {
+      root = c.lay_inodes_with_rights.ensures.root;
+      rights = c.lay_inodes_with_rights.ensures.rights;
+      places = c.lay_inodes_with_rights.ensures.places;
+    })
     c.lay_openings.ensures c.lay_slots.ensures
     c.close_former.ensures c.close_new.ensures c.free_all.ensures
 
@@ -66,7 +93,11 @@ returns-clause-state c =
     has_state
     (can_commit c.stable.invariant c.stable.view_is c.self.invariant c.self.view_is
     c.patches.view_is c.requires.fits c.requires.covers)
-    (record { root = c.lay_inodes.ensures.root; places = c.lay_inodes.ensures.places })
+    (record {
+      root = c.lay_inodes_with_rights.ensures.root;
+      rights = c.lay_inodes_with_rights.ensures.rights;
+      places = c.lay_inodes_with_rights.ensures.places;
+    })
     c.lay_openings.ensures c.lay_slots.ensures
     c.close_former.ensures c.close_new.ensures c.free_all.ensures
     c.stable.view_is
@@ -76,7 +107,11 @@ returns-clause-kept c =
     has_kept
     (can_commit c.stable.invariant c.stable.view_is c.self.invariant c.self.view_is
     c.patches.view_is c.requires.fits c.requires.covers)
-    (record { root = c.lay_inodes.ensures.root; places = c.lay_inodes.ensures.places })
+    (record {
+      root = c.lay_inodes_with_rights.ensures.root;
+      rights = c.lay_inodes_with_rights.ensures.rights;
+      places = c.lay_inodes_with_rights.ensures.places;
+    })
     c.lay_openings.ensures c.lay_slots.ensures
     c.close_former.ensures c.close_new.ensures c.free_all.ensures
     c.stable.view_is

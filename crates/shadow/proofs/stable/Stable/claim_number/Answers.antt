@@ -16,6 +16,12 @@ returns-in-MakeFile-clause-ok c = ok_claimed c.reserve-in-MakeFile.result c.args
 pub returns-in-MakeFile-clause-err : goal.returns-in-MakeFile-clause-err
 returns-in-MakeFile-clause-err c = err_added c.reserve-in-MakeFile.result c.args.self.now c.reserve-in-MakeFile.new.self c.args.chosen.now c.reserve-in-MakeFile.new.chosen c.reserve-in-MakeFile.ensures.err c.reserve-in-MakeFile.ensures.same
 
+pub returns-in-MakeFixed-clause-ok : goal.returns-in-MakeFixed-clause-ok
+returns-in-MakeFixed-clause-ok c = ok_claimed c.reserve-in-MakeFixed.result c.args.self.now c.reserve-in-MakeFixed.new.self false c.args.edit.now c.args.chosen.now c.reserve-in-MakeFixed.new.chosen (sym (ap news c.in-MakeFixed.is)) (ap kinds_in c.in-MakeFixed.is) c.reserve-in-MakeFixed.ensures.ok
+
+pub returns-in-MakeFixed-clause-err : goal.returns-in-MakeFixed-clause-err
+returns-in-MakeFixed-clause-err c = err_added c.reserve-in-MakeFixed.result c.args.self.now c.reserve-in-MakeFixed.new.self c.args.chosen.now c.reserve-in-MakeFixed.new.chosen c.reserve-in-MakeFixed.ensures.err c.reserve-in-MakeFixed.ensures.same
+
 pub returns-in-OpenInode-clause-ok : goal.returns-in-OpenInode-clause-ok
 returns-in-OpenInode-clause-ok c = ok_claimed c.reserve-in-OpenInode.result c.args.self.now c.reserve-in-OpenInode.new.self false c.args.edit.now c.args.chosen.now c.reserve-in-OpenInode.new.chosen (sym (ap news c.in-OpenInode.is)) (ap kinds_in c.in-OpenInode.is) c.reserve-in-OpenInode.ensures.ok
 

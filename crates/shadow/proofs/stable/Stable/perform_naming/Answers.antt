@@ -4,8 +4,8 @@ use Rattle.model.specs.State.{Kernel}
 use Rattle.model.specs.Changes.{Edit, applied, news, tidy}
 use Rattle.call_laws.specs.Fits.{Fits}
 use Rattle.shadow.specs.Steps.{IsNaming, new_in}
-use Rattle.shadow.proofs.edits.UnusedNumbers.{same_directory, same_file, same_linking, same_moving}
-use Rattle.shadow.proofs.edits.UnusedNumbers.{same_unnaming}
+use Rattle.shadow.proofs.edits.UnusedNumbers.{same_directory, same_file, same_fixed, same_linking}
+use Rattle.shadow.proofs.edits.UnusedNumbers.{same_moving, same_unnaming}
 use Rattle.shadow.specs.declared.change.Made.TheVariants.{Directory as A_directory, File as A_file}
 use Rattle.shadow.proofs.stable.Stable.perform_naming.Goals as goal
 
@@ -38,6 +38,22 @@ returns-in-MakeFile-clause-state c =
     c.index-chosen-0-in-MakeFile.result c.in-MakeFile.index
     (subst IsNaming c.in-MakeFile.is c.requires.naming) at c.args.self.now.state)
     ∙ ap (λ (e : Edit). tidy (applied chosen e c.args.self.now.state)) (sym c.in-MakeFile.is)
+
+pub returns-in-MakeFixed-clause-state : goal.returns-in-MakeFixed-clause-state
+returns-in-MakeFixed-clause-state c =
+    let chosen : List ℕ = c.args.chosen.now in
+    let count = subst (λ (e : Edit). news e ≤ length chosen) c.in-MakeFixed.is c.requires.count in
+    let low : 0 < length chosen = omega (arith, count) in
+    let at : c.index-chosen-0-in-MakeFixed.result ≡ new_in chosen 0 =
+    get_or_read chosen 0 c.index-chosen-0-in-MakeFixed.result low c.index-chosen-0-in-MakeFixed.is
+    0 in
+    c.make_fixed.ensures.state
+    ∙ ap (λ (k : Kernel). tidy k)
+    (same_fixed chosen c.in-MakeFixed.parent c.in-MakeFixed.name
+    c.index-chosen-0-in-MakeFixed.result c.in-MakeFixed.index
+    (subst IsNaming c.in-MakeFixed.is c.requires.naming) at c.args.self.now.state
+    c.in-MakeFixed.fixed)
+    ∙ ap (λ (e : Edit). tidy (applied chosen e c.args.self.now.state)) (sym c.in-MakeFixed.is)
 
 pub returns-in-NameFile-clause-state : goal.returns-in-NameFile-clause-state
 returns-in-NameFile-clause-state c =

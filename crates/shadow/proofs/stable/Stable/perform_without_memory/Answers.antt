@@ -1,8 +1,8 @@
 use Rattle.std.proofs.Common.{ℕ, List, [], refl, sym, subst, ap, ◌∙◌}
 use Rattle.model.specs.State.{Kernel}
-use Rattle.model.specs.Changes.{Append, Cut, Edit, Take, applied, tidy}
+use Rattle.model.specs.Changes.{Append, Cut, Edit, Set_rights, Take, applied, tidy}
 use Rattle.call_laws.specs.Fits.{Fits}
-use Rattle.shadow.proofs.edits.UnusedNumbers.{none_goes, same_append, same_cut, same_take}
+use Rattle.shadow.proofs.edits.UnusedNumbers.{none_goes, same_append, same_cut, same_set_rights, same_take}
 use Rattle.shadow.proofs.stable.Stable.perform_without_memory.Goals as goal
 
 pub returns-in-Cut-clause-state : goal.returns-in-Cut-clause-state
@@ -33,3 +33,12 @@ returns-in-Append-clause-state c =
     ∙ none_goes chosen k (Append c.in-Append.pipe c.in-Append.bytes) c.state_is_tidied.ensures
     (subst (Fits chosen k) c.in-Append.is c.requires.fits) refl
     ∙ ap (λ (e : Edit). tidy (applied chosen e k)) (sym c.in-Append.is)
+
+pub returns-in-SetRights-clause-state : goal.returns-in-SetRights-clause-state
+returns-in-SetRights-clause-state c =
+    let chosen : List ℕ = c.args.chosen.now in let k : Kernel = c.args.self.now.state in
+    c.set_rights.ensures.state
+    ∙ same_set_rights chosen k c.in-SetRights.inode c.in-SetRights.rights
+    ∙ none_goes chosen k (Set_rights c.in-SetRights.inode c.in-SetRights.rights)
+    c.state_is_tidied.ensures (subst (Fits chosen k) c.in-SetRights.is c.requires.fits) refl
+    ∙ ap (λ (e : Edit). tidy (applied chosen e k)) (sym c.in-SetRights.is)

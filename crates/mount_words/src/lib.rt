@@ -1,0 +1,191 @@
+//! The command line of `txfs`: `txfs [--limit N] [--file-limit N]`.
+#![tactic(auto)]
+
+ghost use Rattle.std.specs.Prelude.{◌≡◌, ◌≤◌, [], false, map, string_bytes, IfErr, IfOk};
+ghost use Rattle.clap.specs.Words.{app_of, fault_of, found_of, one_text, rule_of};
+ghost use Rattle.ids.specs.declared.limits.TheConstants.{LARGEST_FILE, MAX_ENTRIES};
+ghost use Rattle.mount_words.specs.Options.{AreLimits, IsFaultOf, IsLimit, IsReportedAs};
+ghost use Rattle.mount_words.specs.Options.{SameMatches, file_limit_rule, limit_rule, number_in};
+ghost use Rattle.mount_words.specs.Options.{status_of, txfs};
+
+use clap::error::ErrorKind;
+use clap::{Arg, ArgAction, ArgMatches, Command, Error};
+use ids::Limits;
+use std::alloc::{AllocError, Global};
+use std::io::Write;
+use thiserror::Error as Fault;
+
+/// How many entries the history has places for where `--limit` is not given.
+pub const DEFAULT_LIMIT: u32 = 65_536;
+
+/// The most entries that it may have places for: the largest value of `--limit`.
+pub const MAX_LIMIT: u32 = 1_048_576;
+
+/// The most bytes that a file may have: the largest value of `--file-limit`, and where it is not given.
+pub const MAX_FILE_LIMIT: u32 = 2_147_483_647;
+
+/// Why a command line gives no limits.
+#[derive(Debug, Fault)]
+pub enum CommandLineFault {
+    /// A word is not UTF-8.
+    #[error("an argument is not UTF-8")]
+    NotUtf8,
+    /// The words ask for help, and this is its text. It is no mistake, and is for standard output.
+    #[error("{0}")]
+    Help(Error),
+    /// The words do not fit the command's usage.
+    #[error("{0}")]
+    Usage(Error),
+    /// Memory was refused.
+    #[error("no memory")]
+    NoMemory,
+}
+
+impl Drop for CommandLineFault {
+    fn drop(self) {
+        match self {
+            CommandLineFault::NotUtf8 => {}
+            CommandLineFault::Help(_) => {}
+            CommandLineFault::Usage(_) => {}
+            CommandLineFault::NoMemory => {}
+        }
+    }
+}
+
+impl CommandLineFault {
+    /// The program's exit status: 0 for help, 2 for the command line, 3 for refused memory.
+    pub fn status(&self) -> u8
+        ensures { result ≡ status_of self.now }
+    {
+        match self {
+            CommandLineFault::Help(_) => 0,
+            CommandLineFault::NotUtf8 | CommandLineFault::Usage(_) => 2,
+            CommandLineFault::NoMemory => 3,
+        }
+    }
+
+    /// Writes help to standard output and a fault to standard error. Where that fails there is nobody to tell.
+    pub fn report(&self, rt: &HostRuntime) {
+        match self {
+            CommandLineFault::Help(error) | CommandLineFault::Usage(error) => {
+                let _said = error.print(rt);
+            }
+            CommandLineFault::NotUtf8 => {
+                let _said = rt
+                    .stderr()
+                    .write_all("txfs: an argument is not UTF-8\n".as_bytes());
+            }
+            CommandLineFault::NoMemory => {
+                let _said = rt.stderr().write_all("txfs: no memory\n".as_bytes());
+            }
+        }
+    }
+}
+
+const USAGE: &str = "txfs [--limit <N>] [--file-limit <N>]";
+
+const ABOUT: &str =
+    "Serves a FUSE session on standard input and output, on a kernel with transactions.";
+
+// `--limit N`
+fn limit_arg<'a>(alloc: Global) -> Arg<'a>
+    ensures rule { rule_of result ≡ limit_rule }
+    ensures local { result.global ≡ false }
+{
+    Arg::new(alloc, "limit")
+        .long("limit")
+        .value_name("N")
+        .help("How many entries the history may keep, at most 1048576; 65536 where it is not given")
+        .action(ArgAction::Set)
+        .value_parser(clap::value_parser!(u32).range(0..=MAX_LIMIT as i64))
+}
+
+// `--file-limit N`
+fn file_limit_arg<'a>(alloc: Global) -> Arg<'a>
+    ensures rule { rule_of result ≡ file_limit_rule }
+    ensures local { result.global ≡ false }
+{
+    Arg::new(alloc, "file_limit")
+        .long("file-limit")
+        .value_name("N")
+        .help("The most bytes of a file, at most 2147483647, and that where it is not given")
+        .action(ArgAction::Set)
+        .value_parser(clap::value_parser!(u32).range(0..=MAX_FILE_LIMIT as i64))
+}
+
+// The command that the words are read by.
+fn command<'a>(alloc: Global) -> Result<Command<'a>, AllocError>
+    ensures { IfOk result (λ command. app_of command ≡ txfs) }
+{
+    let with_limit = Command::new(alloc, "txfs").arg(limit_arg(alloc))?;
+    let with_file_limit = with_limit.arg(file_limit_arg(alloc))?;
+    Ok(with_file_limit.override_usage(USAGE).about(ABOUT))
+}
+
+// The fault that clap's error is reported as. Its own want of memory is refused memory.
+fn reported_fault(error: Error) -> CommandLineFault
+    ensures { IsReportedAs error result }
+{
+    match error.kind() {
+        ErrorKind::OutOfMemory => CommandLineFault::NoMemory,
+        ErrorKind::DisplayHelp => CommandLineFault::Help(error),
+        _ => CommandLineFault::Usage(error),
+    }
+}
+
+// The matches of the words.
+fn matches_for<'a>(alloc: Global, words: &'a [String]) -> Result<ArgMatches<'a>, CommandLineFault>
+    ensures numbers { IfOk result (λ m.
+        SameMatches (one_text (found_of m)) (number_in (map string_bytes words.entry.now))) }
+    ensures fits { IfOk result (λ _. fault_of txfs (map string_bytes words.entry.now) ≡ []) }
+    ensures fault { IfErr result (IsFaultOf (map string_bytes words.entry.now)) }
+{
+    let Ok(command) = command(alloc) else {
+        return Err(CommandLineFault::NoMemory);
+    };
+    match command.try_get_matches_from(words) {
+        Ok(matches) => Ok(matches),
+        Err(error) => Err(reported_fault(error)),
+    }
+}
+
+// The number that the matches give for an id, or the default. The command has refused a number above
+// the most and a text that is no number, so `min` only shows the bound to the proof.
+fn limit_of(matches: &ArgMatches, id: &str, default: u32, most: u32) -> u32
+    requires { default ≤ most }
+    ensures value { IsLimit default most (one_text (found_of matches.now) id.now) result }
+    ensures small { result ≤ most }
+{
+    match matches.get_one::<u32>(id) {
+        Some(limit) => limit.min(most),
+        None => default,
+    }
+}
+
+// The limits that the matches give.
+fn limits_of(matches: &ArgMatches) -> Limits
+    ensures limits { AreLimits (one_text (found_of matches.now)) result }
+    ensures entries { result.entries ≤ MAX_ENTRIES }
+    ensures files { result.file_bytes ≤ LARGEST_FILE }
+{
+    Limits {
+        entries: limit_of(matches, "limit", DEFAULT_LIMIT, MAX_LIMIT) as usize,
+        file_bytes: limit_of(matches, "file_limit", MAX_FILE_LIMIT, MAX_FILE_LIMIT),
+    }
+}
+
+/// The limits that a command line gives. The first word is the program's name. clap takes its memory from `alloc`.
+///
+/// Words that fit the usage give the numbers behind the options, and the defaults where an option is not given. Other words give
+/// `Help`, where help is asked for first, or else `Usage`, in clap's own words. `NoMemory` may come in place of each, where memory
+/// was refused. `NotUtf8` never comes, since the words are UTF-8 here.
+pub fn read_limits(alloc: Global, words: &[String]) -> Result<Limits, CommandLineFault>
+    ensures limits { IfOk result (AreLimits (number_in (map string_bytes words.now))) }
+    ensures fits { IfOk result (λ _. fault_of txfs (map string_bytes words.now) ≡ []) }
+    ensures fault { IfErr result (IsFaultOf (map string_bytes words.now)) }
+    ensures entries { IfOk result (λ l. l.entries ≤ MAX_ENTRIES) }
+    ensures files { IfOk result (λ l. l.file_bytes ≤ LARGEST_FILE) }
+{
+    let matches = matches_for(alloc, words)?;
+    Ok(limits_of(&matches))
+}

@@ -1,0 +1,7 @@
+mod Written
+mod Puts
+pub mod Calls
+mod Apart
+mod Merging
+mod Tables
+mod After
