@@ -6,9 +6,9 @@ ghost use Rattle.model.specs.Changes.{End_process, New_process, all_applied, app
 ghost use Rattle.model.specs.Effects.{all_done};
 ghost use Rattle.model.specs.Moments.{start};
 ghost use Rattle.shadow.specs.Claims.{HaveParents};
-ghost use Rattle.shadow.specs.Log.{effect};
+ghost use Rattle.notes.specs.Log.{effect};
 ghost use Rattle.shadow.specs.Looks.{DirectoriesAreKept};
-ghost use Rattle.shadow.specs.Steps.{CanEdit};
+ghost use Rattle.notes.specs.Steps.{CanEdit};
 ghost use Rattle.call_laws.specs.Fits.{Fits, FitsAll};
 ghost use Rattle.freeing_laws.specs.Sweep.{AllFit};
 ghost use Rattle.commit.specs.Dooming.{with_dooms};

@@ -18,6 +18,7 @@ mod lists;
 mod number;
 mod reply;
 mod rights;
+mod target;
 
 pub use aspect::{Aspect, Cause, Touch, Why};
 pub use bytes::{Bytes, Name, NameList};
@@ -35,3 +36,4 @@ pub use lists::{Nums, Pids};
 pub use number::{Age, Fd, Num, Pid, Priority};
 pub use reply::{Answer, Kind, Reply, Stat};
 pub use rights::{NewOwner, Owner, Permissions, Rights};
+pub use target::Target;

@@ -12,7 +12,7 @@ use Rattle.kernel.proofs.Words.{Unname_directory, Touch, touches, counted, count
 use Rattle.model.specs.Changes.{Make_file, Make_fixed, Name_file, Unname_file, Move, Put_bytes, Cut, Open_inode, Set_offset, Set_rights, Share_slot, Clear_slot, Make_pipe, Take, Append, New_process, End_process}
 use Rattle.call_laws.specs.Fits.{Fits}
 use Rattle.shadow.specs.Looks.{DirectoriesAreKept}
-use Rattle.shadow.specs.Steps.{IsOne, IsLast}
+use Rattle.notes.specs.Steps.{IsOne, IsLast}
 use Rattle.kernel.specs.States.{IsBirth, IsExit}
 use Rattle.freeing_laws.specs.Sweep.{IsTidied}
 use Rattle.freeing_laws.proofs.Laws.{sweep_is_tidy_lem}

@@ -22,7 +22,7 @@ use Rattle.ids.specs.Flags.{is_reading, is_writing, is_creating, is_exclusive, i
 use Rattle.model.proofs.Laws.{all_entries}
 use Rattle.call_laws.specs.WellFormed.{WellFormed}
 use Rattle.call_laws.proofs.Laws.{after_bind, allowed, either_given, weaken, whatever}
-use Rattle.shadow.specs.Steps.{CanEdit}
+use Rattle.notes.specs.Steps.{CanEdit}
 
 -- the edits of what a plan gives are those that are there
 abbrev Edits : Change → Type 0

@@ -17,13 +17,13 @@ use Rattle.pipe_shadow.specs.contracts.PipeShadow as PipeShadow
 use Rattle.circular_buffer.proofs.Crosses.{Cells-send, Deed-send}
 use Rattle.fdtable.specs.contracts.FdTable as FdTable
 use Rattle.fdtable.specs.contracts.SlotPatch as SlotPatch
-use Rattle.shadow.specs.contracts.change.Contents as Contents
-use Rattle.shadow.specs.contracts.change.InodeChange as InodeChange
-use Rattle.shadow.specs.contracts.inodes.Inodes as Inodes
-use Rattle.shadow.specs.contracts.new_rights.NewRights as NewRights
-use Rattle.shadow.specs.contracts.opening.Openings as Openings
-use Rattle.shadow.specs.contracts.slots.Slots as Slots
-use Rattle.shadow.specs.contracts.patches.Patches as Patches
+use Rattle.notes.specs.contracts.change.Contents as Contents
+use Rattle.notes.specs.contracts.change.InodeChange as InodeChange
+use Rattle.notes.specs.contracts.inodes.Inodes as Inodes
+use Rattle.notes.specs.contracts.new_rights.NewRights as NewRights
+use Rattle.notes.specs.contracts.opening.Openings as Openings
+use Rattle.notes.specs.contracts.slots.Slots as Slots
+use Rattle.notes.specs.contracts.patches.Patches as Patches
 use Rattle.shadow.specs.contracts.shadow.Shadow as Shadow
 use Rattle.store.specs.contracts.Header as Header
 use Rattle.store.specs.contracts.Object as Object
@@ -43,6 +43,7 @@ use Rattle.ids.specs.contracts.bytes.Bytes as Bytes
 use Rattle.ids.specs.contracts.bytes.Name as Name
 use Rattle.ids.specs.contracts.bytes.NameList as NameList
 use Rattle.ids.specs.contracts.fixed.Fixed as Fixed
+use Rattle.ids.specs.contracts.target.Target as Target
 use Rattle.ids.specs.contracts.reply.Answer as Answer
 use Rattle.ids.specs.contracts.reply.Reply as Reply
 use Rattle.ids.specs.contracts.entry.Entry as Entry
@@ -93,8 +94,11 @@ given_sent = search (sendable, crosses, over.crosses) depth 40 fits 30000
 text_sent : IsSend Bytes.the_row
 text_sent = search (sendable, crosses, over.crosses, frees_by, frees.frees) depth 40 fits 30000
 
+target_sent : IsSend Target.the_row
+target_sent = search (text_sent, sendable, crosses, over.crosses, frees_by, frees.frees) depth 40 fits 30000
+
 fixed_sent : IsSend (Fixed.the_field).row
-fixed_sent = search (text_sent, sendable, crosses, over.crosses, frees_by, frees.frees) depth 40 fits 30000
+fixed_sent = search (target_sent, sendable, crosses, over.crosses, frees_by, frees.frees) depth 40 fits 30000
 
 contents_sent : IsSend (Contents.the_field).row
 contents_sent = search (patch_sent, bytes_sent, open_pipe_sent, appended_sent, fixed_sent, sendable, crosses, over.crosses) depth 40 fits 30000

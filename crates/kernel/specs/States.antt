@@ -27,7 +27,7 @@ use Rattle.model.specs.Changes.{Edit, New_process, End_process, applied, process
 use Rattle.model.specs.Changes.{tidy}
 use Rattle.model.specs.Calls.{Call}
 use Rattle.model.specs.Steps.{Touch, edits}
-use Rattle.shadow.specs.Steps.{CanEdit}
+use Rattle.notes.specs.Steps.{CanEdit}
 use Rattle.shadow.specs.Claims.{HaveParents}
 use Rattle.commit.specs.Edits.{with_change}
 

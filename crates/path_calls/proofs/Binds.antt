@@ -3,6 +3,7 @@ use Rattle.std.proofs.Common.{◌≡◌, ℕ, List, [], ◌∷◌, Bool, true, f
 use Rattle.std.specs.List.{list_any}
 use Rattle.model.specs.Limits.{target_limit}
 use Rattle.std.specs.Prelude.{IsErrAnd}
+use Rattle.std.specs.Option.{IfSome}
 use Rattle.model.specs.State.{Kernel, A_directory, A_link}
 use Rattle.model.specs.Plan.{Errno as Refused, EINVAL, EISDIR, ENAMETOOLONG, ENOENT, ENOTDIR, ENOTEMPTY, Plan, Give, Refuse, Ask, List_names, Count_links, ◌>>=◌, ◌>>◌, ask, refuse_if}
 use Rattle.model.specs.Walks.{Place, Last, is_directory, parsed, walk, last_of}
@@ -51,6 +52,10 @@ three_then false false c g = refl
 
 pub tested_then : {B : Type 0} (target : List ℕ) (g : Plan B) → (refuse_if (is_empty target) ENOENT >> (refuse_if (nat_lt target_limit (length target)) ENAMETOOLONG >> (refuse_if (list_any (λ b. b == 0) target) EINVAL >> g))) ≡ (target_tested target >> g)
 tested_then target g = three_then (is_empty target) (nat_lt target_limit (length target)) (list_any (λ b. b == 0) target) g
+
+-- the target that was made of some bytes
+pub made_of : (made : Option (List ℕ)) (target bytes : List ℕ) → made ≡ Some target → IfSome made (λ t. t ≡ bytes) → target ≡ bytes
+made_of made target bytes is says = rw is at says
 
 -- what a symbolic link is like, by its target's length and by how many names it has
 abbrev pub link_with : ℕ → ℕ → ℕ → Plan Change

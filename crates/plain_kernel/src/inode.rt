@@ -1,6 +1,7 @@
 // An inode of the plain kernel.
 ghost use Rattle.std.specs.Prelude.{◌≡◌, ℕ, ◌+◌, ◌-◌, ◌<◌, ◌≤◌, ◌^◌, option_copied, IfOk};
 ghost use Rattle.std.specs.Prelude.{[], drop, length, take};
+ghost use Rattle.ids.specs.declared.limits.TheConstants.{TARGET_LIMIT};
 ghost use Rattle.objects.specs.declared.run.TheConstants.{LARGEST_RUN};
 ghost use Rattle.model.specs.FiniteMap.{get, keys};
 ghost use Rattle.model.specs.Paths.{is_empty};
@@ -208,7 +209,8 @@ pub(crate) fn pipe_in(inode: Option<&Inode>) -> &[u8]
 
 // The target of a symbolic link.
 pub(crate) fn target_in(inode: Option<&Inode>) -> &[u8]
-    ensures { result.now ≡ target_of_inode (option_copied inode.entry) }
+    ensures value { result.now ≡ target_of_inode (option_copied inode.entry) }
+    ensures small { length result.now ≤ TARGET_LIMIT }
 {
     match inode {
         Some(inode) => match &inode.content {

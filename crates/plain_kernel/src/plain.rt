@@ -297,6 +297,10 @@ impl Look for PlainKernel {
         Bytes::copy(heap, target_in(self.inodes.get(link)))
     }
 
+    fn target_len(&self, link: Num) -> u32 {
+        target_in(self.inodes.get(link)).len() as u32
+    }
+
     fn rights(&self, inode: Num) -> Rights {
         match self.rights.get(inode) {
             Some(rights) => *rights,

@@ -28,17 +28,17 @@ use Rattle.store.specs.declared.Object.TheVariants.{Fixed as A_fixed}
 use Rattle.store.specs.declared.OpenFile.{OpenFile}
 use Rattle.store.specs.declared.Opened.{Opened}
 use Rattle.store.specs.declared.OpenPipe.{OpenPipe}
-use Rattle.shadow.specs.declared.change.InodeChange.{InodeChange}
-use Rattle.shadow.specs.declared.change.Contents.{Contents}
-use Rattle.shadow.specs.declared.change.Contents.TheVariants.{Same, Names, Bytes, Pipe as Piped}
-use Rattle.shadow.specs.declared.change.Contents.TheVariants.{Fixed as As_fixed}
-use Rattle.shadow.specs.declared.opening.Opening.{Opening}
-use Rattle.shadow.specs.declared.opening.Opening.TheVariants.{New}
+use Rattle.notes.specs.declared.change.InodeChange.{InodeChange}
+use Rattle.notes.specs.declared.change.Contents.{Contents}
+use Rattle.notes.specs.declared.change.Contents.TheVariants.{Same, Names, Bytes, Pipe as Piped}
+use Rattle.notes.specs.declared.change.Contents.TheVariants.{Fixed as As_fixed}
+use Rattle.notes.specs.declared.opening.Opening.{Opening}
+use Rattle.notes.specs.declared.opening.Opening.TheVariants.{New}
 use Rattle.shadow.specs.Claims.{Claim, reserved}
 use Rattle.shadow.specs.Committed.{Reserve}
-use Rattle.shadow.specs.Openings.{slot_noted}
-use Rattle.shadow.specs.Patches.{is_new, kept_at, net_at, opening_at, patched, reopened, reslotted}
-use Rattle.shadow.specs.Patches.{rights_over}
+use Rattle.notes.specs.Openings.{slot_noted}
+use Rattle.notes.specs.Patches.{is_new, kept_at, net_at, opening_at, patched, reopened, reslotted}
+use Rattle.notes.specs.Patches.{rights_over}
 use Rattle.shadow.specs.Stored.{AreCounted, IsEndHere, IsStaged, Processes, committed_of, no_processes, numbered, reserve_in, state_of}
 
 -- what is kept for transactions

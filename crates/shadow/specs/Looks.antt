@@ -8,7 +8,7 @@ use Rattle.freeing_laws.specs.Sweep.{AllFit}
 use Rattle.shadow.specs.Committed.{Committed}
 use Rattle.shadow.specs.Claims.{IsDirectory}
 use Rattle.shadow.specs.Agrees.{IsOver}
-use Rattle.shadow.specs.Patches.{Net, form_of, patched}
+use Rattle.notes.specs.Patches.{Net, form_of, patched}
 
 -- no changes, for a process in no transaction
 abbrev pub changes_of : Option (List Effect) → List Effect

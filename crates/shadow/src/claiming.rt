@@ -12,19 +12,16 @@ ghost use Rattle.shadow.specs.Claims.{IsDirectory, IsReserved, KeepsMore, KeepsS
 ghost use Rattle.shadow.specs.Claims.{claimed_by, claimed_in, inode_claim, inodes_claim, new_number};
 ghost use Rattle.shadow.specs.Claims.{Stays, number_as, openings_claim, reserved, room_in};
 ghost use Rattle.shadow.specs.Claims.{with_kinds};
-ghost use Rattle.shadow.specs.Log.{effect};
-ghost use Rattle.shadow.specs.Patches.{net_of};
-ghost use Rattle.shadow.specs.Steps.{AreApart, CanEdit, parents_in};
+ghost use Rattle.notes.specs.Log.{effect};
+ghost use Rattle.notes.specs.Patches.{net_of};
+ghost use Rattle.notes.specs.Steps.{AreApart, CanEdit, parents_in};
 ghost use Rattle.shadow.specs.Stored.{IsBare};
 
-use crate::change::InodeChange;
-use crate::inodes::Inodes;
-use crate::opening::{Opening, Openings};
-use crate::patches::Patches;
 use crate::stable::Stable;
 use dirlist::Dir;
 use heap::Heap;
 use ids::{Edit, Num, Nums};
+use notes::{InodeChange, Inodes, Opening, Openings, Patches};
 use std::alloc::AllocError;
 use store::Object;
 

@@ -11,11 +11,10 @@ ghost use Rattle.shadow.specs.Laid.{Frees, Holds, given_by, given_in};
 ghost use Rattle.store.specs.Shown.{inodes};
 ghost use Rattle.shadow.specs.Stored.{Processes, state_of};
 
-use crate::opening::Openings;
-use crate::slots::Slots;
 use fdtable::SlotPatch;
 use heap::Heap;
 use ids::{DESCRIPTORS, Fd, Num};
+use notes::{Openings, Slots};
 use objects::Description;
 use store::Store;
 

@@ -4,14 +4,14 @@ ghost use Rattle.ids.specs.declared.limits.TheConstants.{DESCRIPTORS};
 ghost use Rattle.model.specs.FiniteMap.{entries, get};
 ghost use Rattle.shadow.specs.Laid.{AreHeld, AreReslotted, IsOneLess, IsOneMore, IsReslotted};
 ghost use Rattle.shadow.specs.Laid.{IsSlotted, table_in};
-ghost use Rattle.shadow.specs.Openings.{AreOnce, slot_noted};
+ghost use Rattle.notes.specs.Openings.{AreOnce, slot_noted};
 ghost use Rattle.shadow.specs.Stored.{numbered, with_process};
-ghost use Rattle.shadow.specs.Patches.{kept_at, slots_in};
+ghost use Rattle.notes.specs.Patches.{kept_at, slots_in};
 
-use crate::slots::Slots;
 use crate::stable::{Process, Processes};
 use fdtable::SlotPatch;
 use ids::{DESCRIPTORS, Fd, Num, Pid};
+use notes::Slots;
 use store::Store;
 
 /// Makes what is changed of slots; what these gave before stands in the place of the changes. It

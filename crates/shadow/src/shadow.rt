@@ -9,18 +9,17 @@ ghost use Rattle.model.specs.Changes.{tidy};
 ghost use Rattle.freeing_laws.specs.Sweep.{AllFit};
 ghost use Rattle.shadow.specs.Claims.{AreUnused, Covers, HaveParents, KeepsMore, KeepsSame, claimed};
 ghost use Rattle.shadow.specs.Claims.{claimed_by};
-ghost use Rattle.shadow.specs.Log.{effect};
-ghost use Rattle.shadow.specs.Steps.{CanEdit};
+ghost use Rattle.notes.specs.Log.{effect};
+ghost use Rattle.notes.specs.Steps.{CanEdit};
 
 use crate::claiming::parent_of;
 use crate::closing::{close_former, close_new, free_all};
 use crate::laying::{lay_inodes_with_rights, lay_openings};
-use crate::log::Log;
-use crate::patches::Patches;
 use crate::reslotting::lay_slots;
 use crate::stable::Stable;
 use heap::Heap;
 use ids::{Edit, Num, Nums};
+use notes::{Log, Patches};
 use std::alloc::AllocError;
 use std::marker::Model;
 use std::snapshot::Snapshot;
@@ -44,7 +43,7 @@ impl Model for Shadow {
     ghost use Rattle.std.specs.Prelude.{List};
     ghost use Rattle.model.specs.Effects.{Effect};
     ghost use Rattle.shadow.specs.Agrees.{Agrees};
-    ghost use Rattle.shadow.specs.Log.{effects_in};
+    ghost use Rattle.notes.specs.Log.{effects_in};
 
     ghost Value = { List Effect };
 

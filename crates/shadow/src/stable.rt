@@ -1,7 +1,7 @@
 // The committed state.
 ghost use Rattle.std.specs.Prelude.{ℕ, ◌≡◌, ◌≢◌, ◌≤◌, ◌<◌, ◌+◌, ◌∷◌, [], List, None, Some, true, IfOk, OnErr};
 ghost use Rattle.std.specs.Prelude.{OnOk, IfSome, option_copied, length, map, if◌then◌else◌};
-ghost use Rattle.ids.specs.declared.limits.TheConstants.{LARGEST_FILE};
+ghost use Rattle.ids.specs.declared.limits.TheConstants.{LARGEST_FILE, TARGET_LIMIT};
 ghost use Rattle.std.specs.List.{AllByRecursion};
 ghost use Rattle.model.specs.FiniteMap.{empty, get};
 ghost use Rattle.model.specs.State.{file_of, kind_of, links, mapped, names_of, File as A_file};
@@ -16,9 +16,9 @@ ghost use Rattle.store.specs.Shown.{file_inode, pipe_inode};
 ghost use Rattle.shadow.specs.Claims.{AreUnused, Claim, Covers, HaveParents, IsDirectory, KeepsMore};
 ghost use Rattle.shadow.specs.Claims.{KeepsNothing, KeepsSame, claimed_by, number_as, number_of};
 ghost use Rattle.shadow.specs.Claims.{reserved, room_in};
-ghost use Rattle.shadow.specs.Log.{effect};
+ghost use Rattle.notes.specs.Log.{effect};
 ghost use Rattle.shadow.specs.Looks.{DirectoriesAreKept, birth_of};
-ghost use Rattle.shadow.specs.Steps.{CanEdit};
+ghost use Rattle.notes.specs.Steps.{CanEdit};
 ghost use Rattle.shadow.specs.Stored.{numbered, with_one_more, with_process};
 
 use crate::shadow::Shadow;
@@ -328,7 +328,8 @@ impl Stable {
 
     /// The target of a symbolic link; no bytes where the number is of none.
     pub(crate) fn target(&self, link: Num) -> &[u8]
-        ensures { result.now ≡ target_of self.now.state link }
+        ensures value { result.now ≡ target_of self.now.state link }
+        ensures small { length result.now ≤ TARGET_LIMIT }
     {
         self.store.target(link)
     }

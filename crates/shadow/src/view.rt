@@ -1,6 +1,7 @@
 // What a process sees.
 ghost use Rattle.std.specs.Prelude.{◌≡◌, ◌≤◌, IfOk, IfSome, drop};
 ghost use Rattle.std.specs.Prelude.{if◌then◌else◌, length, option_copied, option_map, take};
+ghost use Rattle.ids.specs.declared.limits.TheConstants.{TARGET_LIMIT};
 ghost use Rattle.model.specs.FiniteMap.{get};
 ghost use Rattle.model.specs.State.{file_of, kind_of, names_of, pipe_of, target_of};
 ghost use Rattle.model.specs.Changes.{holders, process_of};
@@ -11,13 +12,9 @@ ghost use Rattle.freeing_laws.specs.Sweep.{AllFit};
 ghost use Rattle.objects.specs.declared.run.TheConstants.{LARGEST_RUN};
 ghost use Rattle.shadow.specs.Claims.{Covers};
 ghost use Rattle.shadow.specs.Looks.{DirectoriesAreKept, IsNet, KeepsRest, changes_of};
-ghost use Rattle.shadow.specs.Patches.{net_of};
+ghost use Rattle.notes.specs.Patches.{net_of};
 
-use crate::change::InodeChange;
-use crate::overlay::{
-    bytes_over, count_over, front_of, front_over, given_over, is_empty_over, kind_over, len_over,
-    names_over, new_ends, pipe_len_of, pipe_len_over, small, target_over,
-};
+use crate::counting::{count_over, small, turnover};
 use crate::shadow::Shadow;
 use crate::stable::Stable;
 use dirlist::Dir;
@@ -26,6 +23,10 @@ use freeing_laws::{left_is_tidy, pipes_keep_their_ends};
 use heap::Heap;
 use ids::{Bytes, DESCRIPTORS, Fd, Kind, Name, NameList, Num, PIPE_CAPACITY, Pid, Rights, Slot};
 use look::Look;
+use notes::{
+    InodeChange, bytes_over, front_of, front_over, given_over, is_empty_over, kind_over, len_over,
+    names_over, new_ends, pipe_len_of, pipe_len_over, target_over,
+};
 use objects::{Description, FileData};
 use std::alloc::AllocError;
 use std::marker::Model;
@@ -231,7 +232,7 @@ impl<'a> View<'a> {
         let stored = self.stable.holders(description);
         match self.shadow {
             Some(shadow) => {
-                let (added, taken) = shadow.patches.slots.turnover(self.stable, description);
+                let (added, taken) = turnover(&shadow.patches.slots, self.stable, description);
                 count_over(stored, added, taken)
             }
             None => count_over(stored, 0, 0),
@@ -262,7 +263,8 @@ impl<'a> View<'a> {
 
     // The target of a symbolic link, empty for what is none.
     fn link_target(&self, link: Num) -> &[u8]
-        ensures { result.now ≡ target_of self.now.state link }
+        ensures value { result.now ≡ target_of self.now.state link }
+        ensures small { length result.now ≤ TARGET_LIMIT }
     {
         let stored = self.stable.target(link);
         match change(self.shadow, link) {
@@ -423,6 +425,10 @@ impl<'a> Look for View<'a> {
 
     fn target(&self, heap: Heap, link: Num) -> Result<Bytes, AllocError> {
         Bytes::copy(heap, self.link_target(link))
+    }
+
+    fn target_len(&self, link: Num) -> u32 {
+        self.link_target(link).len() as u32
     }
 
     fn rights(&self, inode: Num) -> Rights {

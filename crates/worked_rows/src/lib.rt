@@ -86,6 +86,8 @@ mod refused_offsets;
 #[cfg(test)]
 mod refused_pipes;
 #[cfg(test)]
+mod renamed_files;
+#[cfg(test)]
 mod renames;
 #[cfg(test)]
 mod rights;

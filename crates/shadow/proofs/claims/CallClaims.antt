@@ -17,12 +17,11 @@ use Rattle.shadow.specs.Claims.{claimed_by, claimed_by_one, claimed_in, kinds_in
 use Rattle.shadow.specs.Claims.{as_count, with_kinds}
 use Rattle.freeing_laws.specs.Counts.{times}
 use Rattle.shadow.specs.Committed.{Committed}
-use Rattle.shadow.specs.Log.{effect}
-use Rattle.shadow.specs.Steps.{CanEdit, IsFirst, IsLast, IsOne, new_in, parents_in}
-use Rattle.shadow.proofs.noting.EditCases.{by_one}
+use Rattle.notes.specs.Log.{effect}
+use Rattle.notes.specs.Steps.{CanEdit, IsFirst, IsLast, IsOne, new_in, parents_in}
+use Rattle.notes.proofs.Laws.{by_one, news_of_two}
 use Rattle.shadow.proofs.claims.EditClaims.{claimed_append, kinds_first, kinds_last, kinds_two, mine}
 use Rattle.shadow.proofs.claims.EditClaims.{no_more, none_claimed}
-use Rattle.shadow.proofs.shared.EditPairs.{news_of_two}
 use Rattle.shadow.proofs.edits.UnusedNumbers.{none_goes}
 
 abbrev ClaimsAlone : List ℕ → Edit → Type 0

@@ -7,12 +7,12 @@ use Rattle.std.proofs.lemmas.List.Sums.{sum_by-append, sum_by-cons}
 use Rattle.model.specs.Changes.{Edit, Make_directory, Make_file, Make_fixed, Make_pipe, Open_inode, news}
 use Rattle.model.specs.Moments.{is_in}
 use Rattle.model.specs.Steps.{AllDifferent}
-use Rattle.shadow.specs.declared.change.Made.{Made as What}
-use Rattle.shadow.specs.declared.change.Made.TheVariants.{Directory as Dir_made, File as File_made, Pipe as Pipe_made, Fixed as Fixed_made}
+use Rattle.notes.specs.declared.change.Made.{Made as What}
+use Rattle.notes.specs.declared.change.Made.TheVariants.{Directory as Dir_made, File as File_made, Pipe as Pipe_made, Fixed as Fixed_made}
 use Rattle.shadow.specs.Claims.{Claim, Room, New_directory, Number, as_count, claim_in, claimed_in, is_directory_made, is_file_made, kinds_in, with_kinds}
-use Rattle.shadow.specs.Patches.{Patches, is_new, net_at, opening_at}
-use Rattle.shadow.specs.Steps.{CanEdit, IsFirst, IsLast, IsOne, TakesAll, TakesIn, made_after, new_in, opened_in, parents_in}
-use Rattle.shadow.proofs.noting.EditCases.{by_one, first_cases, last_cases}
+use Rattle.notes.specs.Patches.{Patches, is_new, net_at, opening_at}
+use Rattle.notes.specs.Steps.{CanEdit, IsFirst, IsLast, IsOne, TakesAll, TakesIn, made_after, new_in, opened_in, parents_in}
+use Rattle.notes.proofs.Laws.{by_one, first_cases, last_cases}
 
 -- the new numbers of an edit with their kinds
 abbrev pub mine : List ℕ → Edit → List (ℕ × Bool)

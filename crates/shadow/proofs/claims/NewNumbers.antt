@@ -15,9 +15,9 @@ use Rattle.call_laws.proofs.Laws.{all-mapped}
 use Rattle.freeing_laws.specs.Counts.{listed, times}
 use Rattle.shadow.specs.Committed.{Committed, Reserve}
 use Rattle.shadow.specs.Claims.{AreAdded, AreUnused, Claim, Room, New_directory, Number, HasParent, HaveClaimed, HaveParents, IsClaimed, IsDirectory, IsReserved, KeepsMore, KeepsSame, claimed_by, claimed_in, kinds_in, number_as, number_of, reserved, room_in, room_of, with_kinds, or_zero, coming_directory, coming_other}
-use Rattle.shadow.specs.Log.{effect}
+use Rattle.notes.specs.Log.{effect}
 use Rattle.shadow.proofs.claims.EditClaims.{apart_at}
-use Rattle.shadow.specs.Steps.{AreApart, CanEdit, IsFirst, IsLast, new_in, parents_in}
+use Rattle.notes.specs.Steps.{AreApart, CanEdit, IsFirst, IsLast, new_in, parents_in}
 
 append_nil : {X : Type 0} (xs : List X) → xs ++ [] ≡ xs
 append_nil [] = refl

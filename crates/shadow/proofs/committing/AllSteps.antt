@@ -11,7 +11,7 @@ use Rattle.shadow.specs.Agrees.{Agrees}
 use Rattle.shadow.specs.Claims.{Claim, Covers, KeepsMore, claimed}
 use Rattle.shadow.specs.Committed.{Committed}
 use Rattle.shadow.specs.Laid.{AreReopened, AreReslotted, Frees, Holds, given_in, kept_in}
-use Rattle.shadow.specs.Patches.{Patches}
+use Rattle.notes.specs.Patches.{Patches}
 use Rattle.shadow.specs.Stored.{Processes, Sound, committed_of, state_of}
 use Rattle.shadow.proofs.committing.TidiedState.{cleared}
 use Rattle.shadow.proofs.committing.CommitStates.{AreCarried, CanCommit, HasAll, HasInodes}

@@ -16,7 +16,7 @@ use Rattle.freeing_laws.proofs.Openings.{openings_change_lem}
 use Rattle.store.specs.Numbers.{Numbers}
 use Rattle.store.specs.declared.Opened.{Opened}
 use Rattle.shadow.specs.Stored.{AreCounted, Processes, numbered, state_of, with_process}
-use Rattle.shadow.specs.Openings.{slot_noted}
+use Rattle.notes.specs.Openings.{slot_noted}
 use Rattle.shadow.specs.Laid.{AreHeld, AreLow, IsOneLess, IsOneMore, IsSlotted, SameStore, WasHeld, table_in}
 use Rattle.shadow.proofs.shared.ProcessLemmas.{no_process, process_of_number}
 use Rattle.shadow.proofs.shared.PipePairLemmas.{same_pairs}

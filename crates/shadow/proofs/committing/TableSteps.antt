@@ -14,11 +14,11 @@ use Rattle.fdtable.specs.Patches.{Given, or_before}
 use Rattle.freeing_laws.specs.Counts.{times}
 use Rattle.store.specs.Numbers.{Numbers}
 use Rattle.shadow.specs.Stored.{Processes, numbered}
-use Rattle.shadow.specs.Openings.{slot_noted}
-use Rattle.shadow.specs.Patches.{reslotted, reslotted_by, slots_in}
+use Rattle.notes.specs.Openings.{slot_noted}
+use Rattle.notes.specs.Patches.{reslotted, reslotted_by, slots_in}
 use Rattle.shadow.specs.Laid.{IsReslotted, IsSlotted, SlotsStay, given_by, table_in}
 use Rattle.shadow.proofs.committing.HolderCounts.{once_here}
-use Rattle.shadow.proofs.noting.SlotLemmas.{map_over, new_of, none_over, noted_over}
+use Rattle.notes.proofs.Laws.{map_over, new_of, none_over, noted_over}
 use Rattle.shadow.proofs.committing.SlotSteps.{same_store_same}
 
 -- one after the other, what stays stays

@@ -29,10 +29,10 @@ use Rattle.shadow.specs.Claims.{coming_directory, coming_other, inodes_claim, is
 use Rattle.shadow.specs.Claims.{openings_claim, or_zero, reserved, room_of}
 use Rattle.shadow.specs.Committed.{Reserve}
 use Rattle.shadow.specs.Laid.{AreReopened, AreReslotted, Holds, kept_in, reserves_of, settled}
-use Rattle.shadow.specs.Patches.{Patches, is_new, net_at, opening_at, reopened}
+use Rattle.notes.specs.Patches.{Patches, is_new, net_at, opening_at, reopened}
 use Rattle.shadow.specs.Stored.{AreCounted, IsEndHere, Processes, committed_of, numbered, reserve_in, state_of}
-use Rattle.shadow.specs.declared.opening.Opening.{Opening}
-use Rattle.shadow.specs.declared.opening.Opening.TheVariants.{New}
+use Rattle.notes.specs.declared.opening.Opening.{Opening}
+use Rattle.notes.specs.declared.opening.Opening.TheVariants.{New}
 use Rattle.shadow.proofs.committing.CommitStates.{CanCommit, HasAll, HasInodes}
 use Rattle.shadow.proofs.claims.ClaimCounts.{at_place, met_is}
 use Rattle.shadow.proofs.shared.PipePairLemmas.{end_of}

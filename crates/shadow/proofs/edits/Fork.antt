@@ -17,14 +17,14 @@ use Rattle.fdtable.specs.Patches.{Given, or_before}
 use Rattle.store.specs.Numbers.{Numbers}
 use Rattle.store.specs.Shown.{descriptions, inodes}
 use Rattle.shadow.specs.Laid.{AreLow, IsReslotted, table_in}
-use Rattle.shadow.specs.Patches.{reslotted}
+use Rattle.notes.specs.Patches.{reslotted}
 use Rattle.shadow.specs.Stored.{AreCounted, Processes, Sound, numbered, state_of, stored}
 use Rattle.shadow.specs.Stored.{with_one_more}
 use Rattle.shadow.proofs.shared.SoundnessLemmas.{sound_after, tidy_after}
 use Rattle.shadow.proofs.edits.EmptyProcesses.{counted_same, same_holders}
 use Rattle.shadow.proofs.shared.ProcessLemmas.{no_process, process_of_number}
 use Rattle.shadow.proofs.edits.SlotChanges.{sound_low}
-use Rattle.shadow.proofs.noting.SlotLemmas.{new_of}
+use Rattle.notes.proofs.Laws.{new_of}
 use Rattle.shadow.proofs.committing.TableSteps.{still_there, table_over}
 
 -- one that is there is the one that it is

@@ -20,8 +20,8 @@ use Rattle.shadow.specs.Claims.{number_of, or_zero, room_of}
 use Rattle.shadow.specs.Committed.{Committed, Reserve}
 use Rattle.shadow.specs.Laid.{AreHeld, AreLow, Frees, Holds, IsOneLess, IsOneMore, IsSlotted, kept_in}
 use Rattle.shadow.specs.Laid.{reserves_of, table_in}
-use Rattle.shadow.specs.Openings.{slot_noted}
-use Rattle.shadow.specs.Steps.{slotting}
+use Rattle.notes.specs.Openings.{slot_noted}
+use Rattle.notes.specs.Steps.{slotting}
 use Rattle.shadow.specs.Stored.{Processes, Sound, committed_of, numbered, state_of, stored}
 use Rattle.shadow.specs.Stored.{with_process}
 use Rattle.shadow.proofs.shared.SoundnessLemmas.{state_is, tidied_of}

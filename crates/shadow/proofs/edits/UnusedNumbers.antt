@@ -12,9 +12,9 @@ use Rattle.model.specs.Changes.{set_inode, set_name, tidy}
 use Rattle.call_laws.specs.Fits.{Fits}
 use Rattle.freeing_laws.specs.Sweep.{IsTidied, loses}
 use Rattle.freeing_laws.proofs.Laws.{sweep_is_tidy_lem}
-use Rattle.shadow.specs.declared.change.Made.{Made as What}
-use Rattle.shadow.specs.declared.change.Made.TheVariants.{Directory as A_directory, File as A_file, Pipe as A_pipe, Fixed as A_fixed}
-use Rattle.shadow.specs.Steps.{new_in, slotting, unnaming}
+use Rattle.notes.specs.declared.change.Made.{Made as What}
+use Rattle.notes.specs.declared.change.Made.TheVariants.{Directory as A_directory, File as A_file, Pipe as A_pipe, Fixed as A_fixed}
+use Rattle.notes.specs.Steps.{new_in, slotting, unnaming}
 
 -- a new object by its own number alone
 module _ (chosen : List ℕ) (d : ℕ) (x : Name) (n i : ℕ) (first : i ≡ 0) (new : n ≡ new_in chosen 0)

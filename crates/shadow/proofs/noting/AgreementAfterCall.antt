@@ -16,11 +16,11 @@ use Rattle.freeing_laws.specs.Sweep.{AllFit}
 use Rattle.shadow.specs.Agrees.{Agrees, IsOver, IsOverDescription, blocks_written}
 use Rattle.shadow.specs.Claims.{AreUnused, Claim, Covers, KeepsMore, KeepsSame, Room, New_directory, Number, as_count, claim_in, claimed, claimed_by, claimed_in, is_directory_made, kinds_in, number_of, reserved, with_kinds}
 use Rattle.shadow.specs.Committed.{Committed}
-use Rattle.shadow.specs.Log.{effect}
-use Rattle.shadow.specs.Notes.{SamePatches}
+use Rattle.notes.specs.Log.{effect}
+use Rattle.notes.specs.Notes.{SamePatches}
 use Rattle.freeing_laws.proofs.Laws.{sweep_is_tidy_lem}
-use Rattle.shadow.specs.Patches.{AllReach, new_ends, Net, Patches, added_by, form_of, is_new, kept_at, net_at, numbers_in, patched, reopened, reslotted_by, rights_over, slots_in}
-use Rattle.shadow.specs.Steps.{AreApart, CanEdit, IsOne, TakesAll, blocks_by, parents_in}
+use Rattle.notes.specs.Patches.{AllReach, new_ends, Net, Patches, added_by, form_of, is_new, kept_at, net_at, numbers_in, patched, reopened, reslotted_by, rights_over, slots_in}
+use Rattle.notes.specs.Steps.{AreApart, CanEdit, IsOne, TakesAll, blocks_by, parents_in}
 use Rattle.shadow.proofs.noting.AgreementAfterEdit.{Along, along_all, along_same}
 use Rattle.shadow.proofs.claims.EditClaims.{AreFree, all_one, claims_more, other_claims}
 

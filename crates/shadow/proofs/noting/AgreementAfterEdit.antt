@@ -14,12 +14,12 @@ use Rattle.freeing_laws.specs.Pipes.{ArePair}
 use Rattle.freeing_laws.proofs.Pipes.{pipes_keep_their_ends_lem}
 use Rattle.freeing_laws.specs.Counts.{named, times, unnamed}
 use Rattle.freeing_laws.specs.Left.{all_named, all_unnamed}
-use Rattle.shadow.specs.declared.change.Contents.{Contents}
-use Rattle.shadow.specs.declared.change.Contents.TheVariants.{Same, Names, Bytes, Pipe as Piped, Fixed as As_fixed}
+use Rattle.notes.specs.declared.change.Contents.{Contents}
+use Rattle.notes.specs.declared.change.Contents.TheVariants.{Same, Names, Bytes, Pipe as Piped, Fixed as As_fixed}
 use Rattle.shadow.specs.Agrees.{IsOver, IsOverDescription}
-use Rattle.shadow.specs.Patches.{AllReach, new_ends, no_change, Patches, added_by, form_of, kept_at, net_at, numbers_in, opening_at, patched, reopened, reslotted, reslotted_by, rights_over, slots_in}
-use Rattle.shadow.specs.Steps.{CanPass, MakesPipe, Applies, AreApart, IsOne, TakesAll, TakesIn, blocks_by, description_after, inode_after, made_after, new_in, numbers_kept, opened_in, parents_in, process_after, rights_after}
-use Rattle.shadow.proofs.noting.EditCases.{applies}
+use Rattle.notes.specs.Patches.{AllReach, new_ends, no_change, Patches, added_by, form_of, kept_at, net_at, numbers_in, opening_at, patched, reopened, reslotted, reslotted_by, rights_over, slots_in}
+use Rattle.notes.specs.Steps.{CanPass, MakesPipe, Applies, AreApart, IsOne, TakesAll, TakesIn, blocks_by, description_after, inode_after, made_after, new_in, numbers_kept, opened_in, parents_in, process_after, rights_after}
+use Rattle.notes.proofs.Laws.{applies}
 use Rattle.shadow.proofs.noting.InodeForms.{over_after, kept_same, still_before}
 use Rattle.shadow.proofs.noting.DescriptionForms.{moved_there, moved_over, lives_before, alive_over}
 

@@ -5,12 +5,12 @@ use Rattle.model.specs.State.{Kernel, Description, Process, mapped, offset_in}
 use Rattle.model.specs.Changes.{Edit, Set_offset, at_offset, at_start, number}
 use Rattle.model.specs.Moments.{is_in}
 use Rattle.call_laws.specs.Fits.{Fits}
-use Rattle.shadow.specs.declared.opening.Opening.{Opening}
-use Rattle.shadow.specs.declared.opening.Opening.TheVariants.{Kept, New, Moved}
+use Rattle.notes.specs.declared.opening.Opening.{Opening}
+use Rattle.notes.specs.declared.opening.Opening.TheVariants.{Kept, New, Moved}
 use Rattle.shadow.specs.Agrees.{IsOverDescription}
-use Rattle.shadow.specs.Patches.{is_new, reslotted_by}
-use Rattle.shadow.specs.Steps.{IsOne, description_after, new_in, opened_in, process_after}
-use Rattle.shadow.proofs.noting.EditCases.{by_one}
+use Rattle.notes.specs.Patches.{is_new, reslotted_by}
+use Rattle.notes.specs.Steps.{IsOne, description_after, new_in, opened_in, process_after}
+use Rattle.notes.proofs.Laws.{by_one}
 
 -- what is known of a value by a test
 some_not_none : {A : Type 0} (x : A) → Some x ≢ None

@@ -6,16 +6,16 @@ use Rattle.model.specs.State.{Kind, A_file, A_directory, A_pipe, Kernel, Inode, 
 use Rattle.model.specs.Changes.{Edit}
 use Rattle.call_laws.specs.Fits.{Fits}
 use Rattle.freeing_laws.specs.Counts.{times}
-use Rattle.shadow.specs.declared.change.Contents.{Contents}
-use Rattle.shadow.specs.declared.change.Contents.TheVariants.{Same, Names, Bytes, Pipe as Piped, Fixed as As_fixed}
-use Rattle.shadow.specs.declared.change.Made.{Made as What}
-use Rattle.shadow.specs.declared.change.Made.TheVariants.{Directory as Dir_made, File as File_made, Pipe as Pipe_made, Fixed as Fixed_made}
-use Rattle.shadow.specs.declared.new_object.NewObject.{NewObject}
-use Rattle.shadow.specs.declared.new_object.NewObject.TheVariants.{Directory as New_directory, File as New_file, Fixed as New_fixed}
+use Rattle.notes.specs.declared.change.Contents.{Contents}
+use Rattle.notes.specs.declared.change.Contents.TheVariants.{Same, Names, Bytes, Pipe as Piped, Fixed as As_fixed}
+use Rattle.notes.specs.declared.change.Made.{Made as What}
+use Rattle.notes.specs.declared.change.Made.TheVariants.{Directory as Dir_made, File as File_made, Pipe as Pipe_made, Fixed as Fixed_made}
+use Rattle.notes.specs.declared.new_object.NewObject.{NewObject}
+use Rattle.notes.specs.declared.new_object.NewObject.TheVariants.{Directory as New_directory, File as New_file, Fixed as New_fixed}
 use Rattle.shadow.specs.Agrees.{IsOver}
-use Rattle.shadow.specs.Patches.{of_pipe, of_fixed, Form, no_change, of_names, of_bytes, form_of, numbers_in, patched}
-use Rattle.shadow.specs.Steps.{piped, AreApart, IsOne, filed, form_after, listed, made_after, made_of, new_form, new_in, numbers_kept, parents_in}
-use Rattle.shadow.proofs.noting.EditCases.{by_one}
+use Rattle.notes.specs.Patches.{of_pipe, of_fixed, Form, no_change, of_names, of_bytes, form_of, numbers_in, patched}
+use Rattle.notes.specs.Steps.{piped, AreApart, IsOne, filed, form_after, listed, made_after, made_of, new_form, new_in, numbers_kept, parents_in}
+use Rattle.notes.proofs.Laws.{by_one}
 use Rattle.shadow.proofs.shared.FixedKinds.{no_directory, no_file, no_pipe}
 
 -- a directory's changes stay a directory's, and a file's a file's

@@ -5,8 +5,7 @@ use Rattle.fdtable.specs.Patches.{Given}
 use Rattle.shadow.specs.Laid.{IsReslotted}
 use Rattle.shadow.specs.Stored.{numbered}
 use Rattle.shadow.proofs.committing.ProcessSteps.{Lays, lays_all, lays_nothing, lays_on, next_there}
-use Rattle.shadow.proofs.noting.DistinctProcesses.{key_at, patch_at}
-use Rattle.shadow.proofs.noting.SlotLemmas.{Entries}
+use Rattle.notes.proofs.Laws.{Entries, key_at, patch_at}
 use Rattle.shadow.proofs.reslotting.lay_each.Goals as goal
 
 pub loop-i-init : goal.loop-i-init

@@ -1,7 +1,7 @@
 use Rattle.std.proofs.Common.{Option, sym, subst, refl}
 use Rattle.model.specs.FiniteMap.{get}
 use Rattle.model.specs.State.{Process}
-use Rattle.shadow.specs.Openings.{slot_noted}
+use Rattle.notes.specs.Openings.{slot_noted}
 use Rattle.shadow.specs.Stored.{Processes, numbered}
 use Rattle.shadow.specs.Laid.{IsSlotted}
 use Rattle.shadow.proofs.shared.ProcessLemmas.{IsProcess, is_process}

@@ -4,8 +4,8 @@ use Rattle.model.specs.Changes.{Edit}
 use Rattle.freeing_laws.specs.Counts.{listed}
 use Rattle.shadow.specs.Agrees.{Agrees}
 use Rattle.shadow.specs.Claims.{AreUnused, Covers, KeepsMore, claimed_by, kinds_in}
-use Rattle.shadow.specs.Log.{effect, effects_in}
-use Rattle.shadow.specs.Steps.{AreApart, TakesAll, parents_in}
+use Rattle.notes.specs.Log.{effect, effects_in}
+use Rattle.notes.specs.Steps.{AreApart, TakesAll, parents_in}
 use Rattle.shadow.proofs.noting.AgreementAfterCall.{agrees_more, agrees_same, can_give, given_back, unused_claims}
 use Rattle.shadow.proofs.shadow.Shadow.edit.Goals as goal
 

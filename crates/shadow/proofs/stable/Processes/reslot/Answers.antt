@@ -1,7 +1,7 @@
 use Rattle.std.proofs.Common.{◌≡◌, ◌≢◌, ◌≤◌, ◌∙◌, ◌<◌, ℕ, Option, None, ◌-◌, length, get_or, sym, ap, arith, vec_len}
 use Rattle.model.specs.FiniteMap.{get}
 use Rattle.model.specs.State.{Process}
-use Rattle.shadow.specs.Openings.{slot_noted}
+use Rattle.notes.specs.Openings.{slot_noted}
 use Rattle.shadow.specs.Stored.{Processes, numbered, with_process}
 use Rattle.shadow.specs.Laid.{table_in}
 use Rattle.shadow.proofs.shared.ProcessLemmas.{IsProcess, is_process, read_there}

@@ -2,8 +2,8 @@ use Rattle.std.proofs.Common.{◌≤◌, ap, sym, subst, ◌∙◌}
 use Rattle.std.specs.List.{flat_map}
 use Rattle.freeing_laws.specs.Counts.{listed}
 use Rattle.shadow.specs.Claims.{KeepsMore, claimed_by, claimed_in, kinds_in, with_kinds}
-use Rattle.shadow.specs.Log.{effect}
-use Rattle.shadow.specs.Steps.{parents_in}
+use Rattle.notes.specs.Log.{effect}
+use Rattle.notes.specs.Steps.{parents_in}
 use Rattle.shadow.proofs.noting.AgreementAfterCall.{can_give}
 use Rattle.shadow.proofs.stable.Stable.apply.Goals as goal
 

@@ -2,7 +2,7 @@ use Rattle.std.proofs.Common.{[], ◌∷◌, refl, subst}
 use Rattle.model.specs.State.{Description}
 use Rattle.model.specs.Changes.{Make_pipe, at_start, to_read, to_write}
 use Rattle.shadow.specs.Claims.{claimed_by_one}
-use Rattle.shadow.specs.declared.opening.Opening.TheVariants.{New}
+use Rattle.notes.specs.declared.opening.Opening.TheVariants.{New}
 use Rattle.shadow.specs.Laid.{IsReopened}
 use Rattle.shadow.proofs.shared.SoundnessLemmas.{less_of}
 use Rattle.shadow.proofs.edits.NewPipes.{pipe_to_come, piping_kept, piping_process, piping_sound, piping_state, process_still, reader_comes, writer_still}

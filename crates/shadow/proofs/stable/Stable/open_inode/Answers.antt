@@ -2,7 +2,7 @@ use Rattle.std.proofs.Common.{[], ◌∷◌, subst}
 use Rattle.model.specs.State.{Description}
 use Rattle.model.specs.Changes.{Open_inode, There, at_start}
 use Rattle.shadow.specs.Claims.{claimed_by_one}
-use Rattle.shadow.specs.declared.opening.Opening.TheVariants.{New}
+use Rattle.notes.specs.declared.opening.Opening.TheVariants.{New}
 use Rattle.shadow.specs.Laid.{IsReopened}
 use Rattle.shadow.proofs.shared.SoundnessLemmas.{less_of}
 use Rattle.shadow.proofs.edits.OpenedInodes.{opening_kept, opening_process, opening_sound, opening_state}

@@ -5,7 +5,7 @@ use Rattle.model.specs.Changes.{Edit, Set_offset, applied, news, tidy}
 use Rattle.call_laws.specs.Fits.{Fits}
 use Rattle.shadow.specs.Claims.{KeepsMore, claimed_by_one}
 use Rattle.shadow.specs.Stored.{committed_of}
-use Rattle.shadow.specs.Steps.{IsLast, new_in}
+use Rattle.notes.specs.Steps.{IsLast, new_in}
 use Rattle.shadow.proofs.shared.SoundnessLemmas.{less_of}
 use Rattle.shadow.proofs.edits.Offsets.{moving_kept, moving_sound, moving_state}
 use Rattle.shadow.proofs.edits.UnusedNumbers.{same_slotting, same_opening}

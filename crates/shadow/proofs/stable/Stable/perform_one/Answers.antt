@@ -1,7 +1,7 @@
 use Rattle.std.proofs.Common.{◌+◌, sym, ap, ◌∙◌}
 use Rattle.shadow.specs.Claims.{reserved}
 use Rattle.shadow.proofs.claims.CallClaims.{claimed_of_one}
-use Rattle.shadow.proofs.shared.Outcomes.{ok_so}
+use Rattle.notes.proofs.Laws.{ok_so}
 use Rattle.shadow.proofs.stable.Stable.perform_one.Goals as goal
 
 pub returns-else-is_last-clause-kept : goal.returns-else-is_last-clause-kept
