@@ -780,30 +780,36 @@ static kagzuvis *checked_kernel(const char *priorities, FILE *trace)
     return NULL;
 }
 
+/* An option with its number, behind the words so far, where it is given. */
+static size_t add_limit(char **words, size_t count, char *option, char text[24], unsigned long value)
+{
+    if (value == 0)
+        return count;
+    snprintf(text, 24, "%lu", value);
+    words[count++] = option;
+    words[count++] = text;
+    return count;
+}
+
 kagzuvis *kagzuvis_start(const char *program, const struct kagzuvis_options *options)
 {
     static const struct kagzuvis_options none;
     const struct kagzuvis_options *given = options != NULL ? options : &none;
     kagzuvis *kernel = checked_kernel(given->priorities != NULL ? given->priorities : "0", given->trace);
-    char limit[24], file_limit[24];
+    char limit[24], file_limit[24], descriptors[24], path_limit[24];
     char stream_word[] = "--stream", limit_word[] = "--limit", file_limit_word[] = "--file-limit", check_word[] = "--check";
-    char *words[8];
+    char descriptors_word[] = "--descriptors", path_limit_word[] = "--path-limit";
+    char *words[12];
     size_t count = 0;
 
     if (kernel == NULL)
         return NULL;
-    snprintf(limit, sizeof limit, "%lu", given->limit);
-    snprintf(file_limit, sizeof file_limit, "%lu", given->file_limit);
     words[count++] = (char *)program;
     words[count++] = stream_word;
-    if (given->limit != 0) {
-        words[count++] = limit_word;
-        words[count++] = limit;
-    }
-    if (given->file_limit != 0) {
-        words[count++] = file_limit_word;
-        words[count++] = file_limit;
-    }
+    count = add_limit(words, count, limit_word, limit, given->limit);
+    count = add_limit(words, count, file_limit_word, file_limit, given->file_limit);
+    count = add_limit(words, count, descriptors_word, descriptors, given->descriptors);
+    count = add_limit(words, count, path_limit_word, path_limit, given->path_limit);
     if (given->check)
         words[count++] = check_word;
     words[count] = NULL;

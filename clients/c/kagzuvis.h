@@ -152,6 +152,8 @@ struct kagzuvis_options {
     unsigned long file_limit;
     int check;                 /* the program's --check */
     FILE *trace;               /* to which the line of each answer is written, or NULL */
+    unsigned long descriptors; /* the program's --descriptors and --path-limit; 0: not given */
+    unsigned long path_limit;
 };
 
 struct kagzuvis_end {

@@ -435,6 +435,30 @@ static void test_the_end(void)
     CHECK(kagzuvis_start(program, &options) == NULL && errno == EINVAL);
 }
 
+static void test_bounds(void)
+{
+    struct kagzuvis_options options;
+    struct kagzuvis_end end = {0, 0};
+    kagzuvis *kernel;
+    int fd;
+
+    memset(&options, 0, sizeof options);
+    options.check = 1;
+    options.descriptors = 100;
+    options.path_limit = 5;
+    kernel = kagzuvis_start(program, &options);
+    CHECK(kernel != NULL);
+    if (kernel == NULL)
+        return;
+    for (fd = 0; fd < 100; fd++)
+        CHECK(kagzuvis_open(kernel, 1, "/a", KAGZUVIS_WRONLY | KAGZUVIS_CREAT) == fd);
+    FAILS(kernel, "EMFILE", kagzuvis_dup(kernel, 1, 0));
+    FAILS(kernel, "EBADF", kagzuvis_dup2(kernel, 1, 0, 100));
+    CHECK(kagzuvis_mkdir(kernel, 1, "/abcd") == 0);
+    FAILS(kernel, "ENAMETOOLONG", kagzuvis_mkdir(kernel, 1, "/abcde"));
+    CHECK(kagzuvis_stop(kernel, &end) == 0 && end.status == 0 && end.checked);
+}
+
 static void test_many_lines_ahead(void)
 {
     kagzuvis *kernel = start("0");
@@ -553,6 +577,7 @@ int main(int argc, char **argv)
     test_transactions_by_hand();
     test_bad_lines();
     test_the_end();
+    test_bounds();
     test_many_lines_ahead();
     test_hostile_answers();
     if (failures == 0)

@@ -496,13 +496,16 @@ class Kernel:
     """A kernel, which is a running `txsh --stream`.
 
     `program` is its path; `priorities` has a number from 0 to 7 for each process that is made at the start; `limit`,
-    `file_limit` and `check` are the program's options. To `trace`, a text file, the line of each answer is written.
+    `file_limit`, `descriptors`, `path_limit` and `check` are the program's options. To `trace`, a text file, the line of
+    each answer is written.
     """
 
-    def __init__(self, program, *, priorities=(0,), limit=None, file_limit=None, check=False, trace=None):
+    def __init__(self, program, *, priorities=(0,), limit=None, file_limit=None, descriptors=None, path_limit=None,
+                 check=False, trace=None):
         line = _priorities_line(priorities)
         words = [os.fspath(program), "--stream"]
-        for option, value in (("--limit", limit), ("--file-limit", file_limit)):
+        limits = ("--limit", limit), ("--file-limit", file_limit), ("--descriptors", descriptors), ("--path-limit", path_limit)
+        for option, value in limits:
             if value is not None:
                 words += [option, str(operator.index(value))]
         if check:

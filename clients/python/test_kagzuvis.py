@@ -469,6 +469,17 @@ class Streams(TestCase):
             process.stat("/")
         self.assertEqual(raised.exception.status, 0)
 
+    def test_bounds(self):
+        with Kernel(PROGRAM, check=True, descriptors=100, path_limit=5) as kernel:
+            process = kernel.processes[0]
+            opened = [process.open("/a", WRONLY | CREAT) for _ in range(100)]
+            self.assertEqual(opened, list(range(100)))
+            self.assertRefused("EMFILE", process.dup, 0)
+            self.assertRefused("EBADF", process.dup2, 0, 100)
+            process.mkdir("/abcd")
+            self.assertRefused("ENAMETOOLONG", process.mkdir, "/abcde")
+        self.assertEqual((kernel.status, kernel.checked), (0, True))
+
     def test_an_end_before_the_end(self):
         kernel = self.kernel(limit=1)
         process = kernel.processes[0]

@@ -445,13 +445,23 @@ pub struct Options {
     pub priorities: Vec<u8>,
     pub limit: Option<u32>,
     pub file_limit: Option<u32>,
+    pub descriptors: Option<u32>,
+    pub path_limit: Option<u32>,
     pub check: bool,
     pub trace: Option<Box<dyn Write + Send>>,
 }
 
 impl Default for Options {
     fn default() -> Options {
-        Options { priorities: vec![0], limit: None, file_limit: None, check: false, trace: None }
+        Options {
+            priorities: vec![0],
+            limit: None,
+            file_limit: None,
+            descriptors: None,
+            path_limit: None,
+            check: false,
+            trace: None,
+        }
     }
 }
 
@@ -584,7 +594,13 @@ impl Kernel {
         priorities_line(&options.priorities)?;
         let mut command = Command::new(program);
         command.arg("--stream").stdin(Stdio::piped()).stdout(Stdio::piped());
-        for (option, value) in [("--limit", options.limit), ("--file-limit", options.file_limit)] {
+        let limits = [
+            ("--limit", options.limit),
+            ("--file-limit", options.file_limit),
+            ("--descriptors", options.descriptors),
+            ("--path-limit", options.path_limit),
+        ];
+        for (option, value) in limits {
             if let Some(value) = value {
                 command.arg(option).arg(value.to_string());
             }

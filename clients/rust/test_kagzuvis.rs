@@ -287,6 +287,21 @@ impl Tests {
         Ok(())
     }
 
+    fn bounds(&self) -> kagzuvis::Result<()> {
+        let options = Options { descriptors: Some(100), path_limit: Some(5), check: true, ..Options::default() };
+        let kernel = Kernel::start(&self.program, options).expect("the program starts");
+        let process = kernel.process(1);
+        for fd in 0..100 {
+            assert_eq!(process.open("/a", WRONLY | CREAT), Ok(fd));
+        }
+        assert_eq!(process.dup(0), refused(EMFILE));
+        assert_eq!(process.dup2(0, 100), refused(EBADF));
+        process.mkdir("/abcd")?;
+        assert_eq!(process.mkdir("/abcde"), refused(ENAMETOOLONG));
+        assert_eq!(kernel.close().expect("it ends"), End { status: Some(0), checked: true });
+        Ok(())
+    }
+
     fn many_lines_ahead(&self) -> kagzuvis::Result<()> {
         let kernel = self.kernel(&[0, 0]);
         let process = kernel.process(1);
@@ -393,6 +408,7 @@ fn main() {
         Tests::transactions_by_hand,
         Tests::transactions_that_run,
         Tests::bad_lines_and_the_end,
+        Tests::bounds,
         Tests::many_lines_ahead,
         Tests::hostile_answers,
     ];

@@ -229,8 +229,8 @@ pub(crate) fn kernel_with_file<K: Machine>(heap: Heap) -> Result<K> {
         bail!("there is no priority 0")
     };
     let limits = Limits {
-        entries: 65_536,
         file_bytes: LARGEST_FILE as u32,
+        ..Limits::of_entries(65_536)
     };
     let mut kernel = K::with_limits(heap, &[zero], limits)?;
     match open(&mut kernel, heap) {

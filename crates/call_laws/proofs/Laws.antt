@@ -36,7 +36,7 @@ use Rattle.call_laws.proofs.law.TidyUnseen.{tidying_is_unseen}
 use Rattle.call_laws.proofs.law.Start.{well_start, tidy_start}
 -- what the crates above cite besides
 pub use Rattle.call_laws.proofs.FirstProcesses.{first_processes_live}
-pub use Rattle.call_laws.proofs.Largest.{the_largest_file_stays}
+pub use Rattle.call_laws.proofs.Bounds.{the_bounds_stay}
 pub use Rattle.call_laws.proofs.Maps.{Part, all-mapped, empty_gives, get_retained, none_by_keys, not_none, one_some, removed_other, removed_same, retained_some, some_part, some_same, stays_inserted, sum-alike, sum-empty, sum-zero, true_is_false}
 pub use Rattle.call_laws.proofs.Numbers.{can_be_made}
 pub use Rattle.call_laws.proofs.Tidying.{either_of, get_tidy, held_by, named_in, open_reached, reached, rooted_reached, tables_weight}
@@ -128,7 +128,7 @@ edits_own chosen (e ∷ es) now later pid inside by own f g =
 
 -- another's edits leave it alone
 others_alone : (chosen : List ℕ) (es : List Edit) (k : Kernel) (pid other : ℕ) (inside : Bool) → AllByRecursion (IsBy other inside) es → pid ≢ other → IsAlive k pid → WellFormed k → FitsAll chosen k es → OwnAlike k (all_applied chosen es k) pid
-others_alone chosen [] k pid other inside by away alive well f = record { root = refl; largest = refl; table = refl; fixed = λ f d is. refl }
+others_alone chosen [] k pid other inside by away alive well f = record { root = refl; bounds = refl; table = refl; fixed = λ f d is. refl }
 others_alone chosen (e ∷ es) k pid other inside by away alive well f =
     own_trans k (applied chosen e k) (all_applied chosen es (applied chosen e k)) pid
     (own_is_left_alone chosen k e pid other inside by.0 away alive well f.0)

@@ -18,7 +18,7 @@ use Rattle.model.specs.Changes.{Set_offset, Set_rights, Open_inode, Make_pipe, S
 use Rattle.model.specs.Changes.{New_process, End_process, marks, applied, process_of}
 use Rattle.model.specs.Changes.{Replaced, Over_nothing, Over_file, Over_directory}
 use Rattle.call_laws.specs.Objects.{IsThere, LeavesAlone}
-use Rattle.call_laws.specs.WellFormed.{CanBeLinked, IsRooted, Leads, descriptor_limit}
+use Rattle.call_laws.specs.WellFormed.{CanBeLinked, IsRooted, Leads, most_descriptors}
 
 -- a name of a directory that is free
 pub record IsFree (k : Kernel) (d : ℕ) (x : Name) : Type 0 where
@@ -85,7 +85,7 @@ pub record IsUnused (k : Kernel) (d : ℕ) : Type 0 where
 pub record IsOpenSlot (k : Kernel) (pid f : ℕ) : Type 0 where
   pub alive : IsAlive k pid
   pub free : get (table_of k pid) f ≡ None
-  pub low : f < descriptor_limit
+  pub low : f < most_descriptors k
 
 -- a description of a file that has a name
 pub record CanOpen (chosen : List ℕ) (k : Kernel) (d n pid f : ℕ) : Type 0 where
@@ -113,7 +113,7 @@ pub record CanShare (k : Kernel) (pid f d : ℕ) (pipes : List ℕ) : Type 0 whe
   pub alive : IsAlive k pid
   pub from : ℕ
   pub held : get (table_of k pid) from ≡ Some d
-  pub low : f < descriptor_limit
+  pub low : f < most_descriptors k
   pub comes : ListsPipe k pipes d
   pub goes : (e : ℕ) → get (table_of k pid) f ≡ Some e → ListsPipe k pipes e
 
@@ -188,7 +188,7 @@ fixed_of k d = mapped (λ it. slot_of k d (Some it)) (get k.descriptions d)
 -- a process sees the same of itself in two states
 pub record OwnAlike (now later : Kernel) (pid : ℕ) : Type 0 where
   pub root : later.root ≡ now.root
-  pub largest : later.largest ≡ now.largest
+  pub bounds : later.bounds ≡ now.bounds
   pub table : table_of later pid ≡ table_of now pid
   pub fixed : (f d : ℕ) → get (table_of now pid) f ≡ Some d → fixed_of later d ≡ fixed_of now d
 

@@ -29,8 +29,9 @@ pub use errno::{Errno, Refusal};
 pub use fixed::{Fixed, Special};
 pub use flags::{BeginFlags, OpenFlags};
 pub use limits::{
-    BLOCK_LEN, DEFAULT_LARGEST_FILE, DESCRIPTORS, LARGEST_FILE, Limits, MAX_ENTRIES, MAX_PROCESSES,
-    MOST_MOVED, NAME_LIMIT, PATH_LIMIT, PIPE_CAPACITY, TARGET_LIMIT, WHOLE_WRITE,
+    BLOCK_LEN, Bounds, DEFAULT_DESCRIPTORS, DEFAULT_LARGEST_FILE, DEFAULT_PATH_LIMIT, DESCRIPTORS,
+    LARGEST_FILE, Limits, MAX_ENTRIES, MAX_PROCESSES, MOST_MOVED, NAME_LIMIT, PATH_LIMIT,
+    PIPE_CAPACITY, TARGET_LIMIT, WHOLE_WRITE,
 };
 pub use lists::{Nums, Pids};
 pub use number::{Age, Fd, Num, Pid, Priority};

@@ -66,7 +66,7 @@ last_parents v m (Share_slot pid f d pipes) is = tt
 last_parents v m (Clear_slot pid f pipes) is = tt
 last_parents v m e is = absurd is
 
-inside_parents : (v : Committed) (pid : ℕ) (call : Call) → WellFormed v.state → v.state.largest ≤ largest_file → is_alive v.state pid ≡ true → DirectoriesAreKept v → is_inside call ≡ true → HaveParents v.reserves (edits v.state pid call)
+inside_parents : (v : Committed) (pid : ℕ) (call : Call) → WellFormed v.state → v.state.bounds.file_bytes ≤ largest_file → is_alive v.state pid ≡ true → DirectoriesAreKept v → is_inside call ≡ true → HaveParents v.reserves (edits v.state pid call)
 inside_parents v pid call well low alive kept inside =
     let can = can_be_made v.state pid call well alive in
     by can.0 (edits v.state pid call) (calls_edit v.state pid well low call inside) (fits v.state pid call can.0 can.1)
@@ -77,7 +77,7 @@ inside_parents v pid call well low alive kept inside =
     by chosen (e ∷ f ∷ []) can fit = (first_parents v kept chosen e fit.0 (inl can.0), (last_parents v (news e) f can.2, tt))
     by chosen (e ∷ f ∷ g ∷ es) can fit = absurd can
 
-have_parents : (v : Committed) (pid : ℕ) (call : Call) → WellFormed v.state → v.state.largest ≤ largest_file → is_alive v.state pid ≡ true → DirectoriesAreKept v → HaveParents v.reserves (edits v.state pid call)
+have_parents : (v : Committed) (pid : ℕ) (call : Call) → WellFormed v.state → v.state.bounds.file_bytes ≤ largest_file → is_alive v.state pid ≡ true → DirectoriesAreKept v → HaveParents v.reserves (edits v.state pid call)
 have_parents v pid Fork well low alive kept = elim (fork_comes v.state pid) [
   | inl refused ↦ subst (HaveParents v.reserves) (sym refused.1) tt
   | inr made ↦ subst (HaveParents v.reserves) (sym made.3) (tt, tt)
@@ -183,12 +183,12 @@ steadily k pid call inside =
     let none = childless k pid call inside in
     record { childless = none.0; unborn = none.1; stays = goes_on call (reply k pid call) inside }
 
-inside_fate : (k : Kernel) (pid : ℕ) (call : Call) → WellFormed k → k.largest ≤ largest_file → is_inside call ≡ true → Steadily k pid call
+inside_fate : (k : Kernel) (pid : ℕ) (call : Call) → WellFormed k → k.bounds.file_bytes ≤ largest_file → is_inside call ≡ true → Steadily k pid call
 inside_fate k pid call well low inside =
     let calm = steadily k pid call inside in
     record { childless = calm.childless; unborn = calm.unborn; stays = calm.stays; edits = calls_edit k pid well low call inside }
 
-fate : (k : Kernel) (pid : ℕ) → WellFormed k → k.largest ≤ largest_file → (call : Call) → Steadily k pid call ⊎ (Bears k pid call ⊎ Leaves k pid call)
+fate : (k : Kernel) (pid : ℕ) → WellFormed k → k.bounds.file_bytes ≤ largest_file → (call : Call) → Steadily k pid call ⊎ (Bears k pid call ⊎ Leaves k pid call)
 fate k pid well low Fork = elim (fork_comes k pid) [
   | inl refused ↦
       let says = ap answered refused.0 in

@@ -17,6 +17,9 @@ use Rattle.pipe_shadow.specs.contracts.PipeShadow as PipeShadow
 use Rattle.circular_buffer.proofs.Crosses.{Cells-send, Deed-send}
 use Rattle.fdtable.specs.contracts.FdTable as FdTable
 use Rattle.fdtable.specs.contracts.SlotPatch as SlotPatch
+use Rattle.fdtable.specs.contracts.page.Page as Page
+use Rattle.fdtable.specs.contracts.pages.Pages as Pages
+use Rattle.fdtable.specs.contracts.room.SlotRoom as SlotRoom
 use Rattle.notes.specs.contracts.change.Contents as Contents
 use Rattle.notes.specs.contracts.change.InodeChange as InodeChange
 use Rattle.notes.specs.contracts.inodes.Inodes as Inodes
@@ -85,11 +88,20 @@ appended_sent = search (sendable, crosses, over.crosses, frees_by, frees.frees) 
 open_pipe_sent : IsSend (OpenPipe.the_field).row
 open_pipe_sent = search (waiting_sent, sendable, crosses, over.crosses) depth 40 fits 30000
 
+page_sent : IsSend Page.the_row
+page_sent = search (sendable, crosses, over.crosses, frees_by, frees.frees) depth 40 fits 30000
+
+pages_sent : IsSend Pages.the_row
+pages_sent = search (page_sent, sendable, crosses, over.crosses, frees_by, frees.frees) depth 40 fits 30000
+
 table_sent : IsSend FdTable.the_row
-table_sent = search (sendable, crosses, over.crosses) depth 40 fits 30000
+table_sent = search (pages_sent, sendable, crosses, over.crosses) depth 40 fits 30000
 
 given_sent : IsSend SlotPatch.the_row
-given_sent = search (sendable, crosses, over.crosses) depth 40 fits 30000
+given_sent = search (pages_sent, sendable, crosses, over.crosses, frees_by, frees.frees) depth 40 fits 30000
+
+places_sent : IsSend SlotRoom.the_row
+places_sent = search (pages_sent, sendable, crosses, over.crosses) depth 40 fits 30000
 
 text_sent : IsSend Bytes.the_row
 text_sent = search (sendable, crosses, over.crosses, frees_by, frees.frees) depth 40 fits 30000
@@ -116,7 +128,7 @@ openings_sent : IsSend Openings.the_row
 openings_sent = search (sendable, crosses, over.crosses, maps.crosses, frees_by, frees.frees) depth 40 fits 30000
 
 slots_sent : IsSend Slots.the_row
-slots_sent = search (given_sent, sendable, crosses, over.crosses, frees_by, frees.frees) depth 40 fits 30000
+slots_sent = search (given_sent, places_sent, sendable, crosses, over.crosses, frees_by, frees.frees) depth 40 fits 30000
 
 patches_sent : IsSend Patches.the_row
 patches_sent = search (inodes_sent, rights_sent, openings_sent, slots_sent, sendable, crosses, over.crosses, frees_by, frees.frees) depth 40 fits 30000

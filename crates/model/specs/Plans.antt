@@ -50,8 +50,13 @@ free_from table f (suc more) =
     if list_any (λ e. e.0 == f) table then free_from table (suc f) more
     else f ∷ free_from table (suc f) more
 
+-- how many descriptors its process may have: those that the kernel lets one have, and never more than
+-- one can have at all (OPEN_MAX)
+abbrev pub open_limit : Own → ℕ
+open_limit own = min own.bounds.descriptors descriptor_limit
+
 abbrev pub free : Own → List ℕ
-free own = free_from own.table 0 descriptor_limit
+free own = free_from own.table 0 (open_limit own)
 
 abbrev pub first_of_free : List ℕ → Plan ℕ
 first_of_free [] = Refuse EMFILE
@@ -264,7 +269,7 @@ plan own (Open path flags) = do
   refuse_if (not (is_reading flags || is_writing flags)) EINVAL
   refuse_if (is_exclusive flags && not (is_creating flags)) EINVAL
   refuse_if (is_truncating flags && not (is_writing flags)) EINVAL
-  names ← parsed path
+  names ← parsed own.bounds.path_bytes path
   f ← first_of_free (free own)
   at ← last_of own.root (if is_creating flags && is_exclusive flags then EEXIST else EISDIR) names
   opened own flags f at at.found
@@ -284,36 +289,36 @@ plan own (Pread f count offset) = do
 plan own (Write f bytes) = do
   it ← slot own f
   refuse_if (not it.writing) EBADF
-  if is_empty bytes then unchanged (Count 0) else write_some own.largest it bytes
+  if is_empty bytes then unchanged (Count 0) else write_some own.bounds.file_bytes it bytes
 plan own (Pwrite f bytes offset) = do
   it ← slot own f
   refuse_if (not it.writing) EBADF
   refuse_if (is_pipe it.kind) ESPIPE
   at ← or_refuse EINVAL (offset_named offset)
-  if is_empty bytes then unchanged (Count 0) else write_from own.largest it.inode at bytes
+  if is_empty bytes then unchanged (Count 0) else write_from own.bounds.file_bytes it.inode at bytes
 plan own (Lseek f move whence) = do
   it ← slot own f
   refuse_if (is_pipe it.kind) ESPIPE
   place ← base it whence
-  sought own.largest it (pos place +ℤ move)
+  sought own.bounds.file_bytes it (pos place +ℤ move)
 plan own (Ftruncate f len) = do
   it ← slot own f
   refuse_if (not it.writing) EBADF
   refuse_if (is_pipe it.kind) EINVAL
-  refuse_if (nat_lt own.largest len) EFBIG
+  refuse_if (nat_lt own.bounds.file_bytes len) EFBIG
   cut ← cut_to it.inode len
   changed Done cut
 plan own (Truncate path len) = do
-  names ← parsed path
+  names ← parsed own.bounds.path_bytes path
   place ← walk (own.root, Some A_directory) names
   refuse_if (is_directory place) EISDIR
   refuse_if (is_link place) ELOOP
   refuse_if (is_special place) EINVAL
-  refuse_if (nat_lt own.largest len) EFBIG
+  refuse_if (nat_lt own.bounds.file_bytes len) EFBIG
   cut ← cut_to place.0 len
   changed Done cut
 plan own (Stat path) = do
-  names ← parsed path
+  names ← parsed own.bounds.path_bytes path
   place ← walk (own.root, Some A_directory) names
   refuse_if (is_link place) ELOOP
   status place
@@ -321,22 +326,22 @@ plan own (Fstat f) = do
   it ← slot own f
   status (it.inode, it.kind)
 plan own (Link old path) = do
-  from ← parsed old
-  to ← parsed path
+  from ← parsed own.bounds.path_bytes old
+  to ← parsed own.bounds.path_bytes path
   what ← walk (own.root, Some A_directory) from
   refuse_if (is_directory what) EPERM
   at ← last_of own.root EEXIST to
   absent at.found
   changed Done (Name_file at.parent at.name what.0 ∷ [])
 plan own (Unlink path) = do
-  names ← parsed path
+  names ← parsed own.bounds.path_bytes path
   at ← last_of own.root EPERM names
   what ← or_refuse ENOENT at.found
   refuse_if (is_directory what) EPERM
   changed Done (Unname_file at.parent at.name what.0 ∷ [])
 plan own (Rename old path) = do
-  from ← parsed old
-  to ← parsed path
+  from ← parsed own.bounds.path_bytes old
+  to ← parsed own.bounds.path_bytes path
   refuse_if (is_empty from || is_empty to) EBUSY
   at ← last_of own.root EBUSY from
   what ← or_refuse ENOENT at.found
@@ -344,12 +349,12 @@ plan own (Rename old path) = do
   onto ← last_of own.root EBUSY to
   moved at what onto onto.found
 plan own (Mkdir path) = do
-  names ← parsed path
+  names ← parsed own.bounds.path_bytes path
   at ← last_of own.root EEXIST names
   absent at.found
   changed Done (Make_directory at.parent at.name 0 ∷ [])
 plan own (Rmdir path) = do
-  names ← parsed path
+  names ← parsed own.bounds.path_bytes path
   at ← last_of own.root EBUSY names
   what ← or_refuse ENOENT at.found
   refuse_if (not (is_directory what)) ENOTDIR
@@ -357,7 +362,7 @@ plan own (Rmdir path) = do
   refuse_if (not (is_empty entries)) ENOTEMPTY
   changed Done (Unname_directory at.parent at.name what.0 ∷ [])
 plan own (List_directory path) = do
-  names ← parsed path
+  names ← parsed own.bounds.path_bytes path
   place ← walk (own.root, Some A_directory) names
   refuse_if (is_link place) ELOOP
   refuse_if (not (is_directory place)) ENOTDIR
@@ -369,34 +374,34 @@ plan own (Symlink target path) = do
   refuse_if (is_empty target) ENOENT
   refuse_if (nat_lt target_limit (length target)) ENAMETOOLONG
   refuse_if (list_any (λ b. b == 0) target) EINVAL
-  names ← parsed path
+  names ← parsed own.bounds.path_bytes path
   at ← last_of own.root EEXIST names
   absent at.found
   changed Done (Make_fixed at.parent at.name (Link_to target) 0 ∷ [])
 plan own (Readlink path) = do
-  names ← parsed path
+  names ← parsed own.bounds.path_bytes path
   place ← walk (own.root, Some A_directory) names
   refuse_if (not (is_link place)) EINVAL
   target ← ask (Read_target place.0)
   unchanged (Bytes target)
 plan own (Lstat path) = do
-  names ← parsed path
+  names ← parsed own.bounds.path_bytes path
   place ← walk (own.root, Some A_directory) names
   status place
 plan own (Mknod path special) = do
-  names ← parsed path
+  names ← parsed own.bounds.path_bytes path
   at ← last_of own.root EEXIST names
   absent at.found
   changed Done (Make_fixed at.parent at.name (special_object special) 0 ∷ [])
 -- a symbolic link in the last place is refused by chmod, which would follow it, and is itself what
 -- this chown is about (POSIX.1-2017, chmod, lchown)
 plan own (Chmod path permissions) = do
-  names ← parsed path
+  names ← parsed own.bounds.path_bytes path
   place ← walk (own.root, Some A_directory) names
   refuse_if (is_link place) ELOOP
   revised place.0 (permitted permissions)
 plan own (Chown path owner) = do
-  names ← parsed path
+  names ← parsed own.bounds.path_bytes path
   place ← walk (own.root, Some A_directory) names
   revised place.0 (owned place.1 owner)
 plan own (Fchmod f permissions) = do
@@ -410,7 +415,7 @@ plan own (Dup f) = do
   duplicated own it (free own)
 plan own (Dup2 f g) = do
   it ← slot own f
-  refuse_if (nat_lt 63 g) EBADF
+  refuse_if (nat_le (open_limit own) g) EBADF
   if f == g then unchanged (Descriptor f)
       else changed (Descriptor g)
       (Share_slot own.pid g it.description (pipe_in (Some it) ++ pipe_in (slot_at own g)) ∷ [])

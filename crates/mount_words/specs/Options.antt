@@ -9,7 +9,7 @@ use Rattle.clap.specs.declared.builder.value_parser.ValueParser.TheVariants.{Sig
 use Rattle.clap.specs.declared.error.Error.{Error}
 use Rattle.clap.specs.declared.error.kind.ErrorKind.TheVariants.{DisplayHelp, OutOfMemory}
 use Rattle.ids.specs.declared.limits.Limits.{Limits}
-use Rattle.mount_words.specs.declared.TheConstants.{DEFAULT_LIMIT, MAX_FILE_LIMIT, MAX_LIMIT}
+use Rattle.mount_words.specs.declared.TheConstants.{DEFAULT_LIMIT, MAX_FILE_LIMIT, MAX_LIMIT, MOUNT_DESCRIPTORS, MOUNT_PATH_LIMIT}
 use Rattle.mount_words.specs.declared.CommandLineFault.{CommandLineFault}
 use Rattle.mount_words.specs.declared.CommandLineFault.TheVariants.{NotUtf8, Help, Usage, NoMemory}
 
@@ -41,10 +41,13 @@ IsLimit default most (Some text) limit =
     × ParsesUnsigned 32 10 text read
     × (limit ≡ min (result_unwrap_or read default) most)
 
--- the limits that the options' texts give
+-- the limits that the options' texts give. No option gives the descriptors of a process, or the bytes of a
+-- path.
 pub record AreLimits (number : Text → Option Text) (limits : Limits) : Type 0 where
   pub entries : IsLimit DEFAULT_LIMIT MAX_LIMIT (number (codes "limit")) limits.entries
   pub files : IsLimit MAX_FILE_LIMIT MAX_FILE_LIMIT (number (codes "file_limit")) limits.file_bytes
+  pub descriptors : limits.descriptors ≡ MOUNT_DESCRIPTORS
+  pub paths : limits.path_bytes ≡ MOUNT_PATH_LIMIT
 
 -- the text that is read as a number in a command's matches of these words
 abbrev pub number_in : List Text → Text → Option Text

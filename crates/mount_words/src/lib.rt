@@ -24,6 +24,13 @@ pub const MAX_LIMIT: u32 = 1_048_576;
 /// The most bytes that a file may have: the largest value of `--file-limit`, and where it is not given.
 pub const MAX_FILE_LIMIT: u32 = 2_147_483_647;
 
+/// How many descriptors each process of the mount's kernel may have: a process of the plain tree has so
+/// many files open at most, and so has a transaction.
+pub const MOUNT_DESCRIPTORS: u32 = 65_536;
+
+/// The most bytes of a path of the mount's kernel, as on Linux.
+pub const MOUNT_PATH_LIMIT: u32 = 4_096;
+
 /// Why a command line gives no limits.
 #[derive(Debug, Fault)]
 pub enum CommandLineFault {
@@ -171,14 +178,17 @@ fn limits_of(matches: &ArgMatches) -> Limits
     Limits {
         entries: limit_of(matches, "limit", DEFAULT_LIMIT, MAX_LIMIT) as usize,
         file_bytes: limit_of(matches, "file_limit", MAX_FILE_LIMIT, MAX_FILE_LIMIT),
+        descriptors: MOUNT_DESCRIPTORS,
+        path_bytes: MOUNT_PATH_LIMIT,
     }
 }
 
 /// The limits that a command line gives. The first word is the program's name. clap takes its memory from `alloc`.
 ///
-/// Words that fit the usage give the numbers behind the options, and the defaults where an option is not given. Other words give
-/// `Help`, where help is asked for first, or else `Usage`, in clap's own words. `NoMemory` may come in place of each, where memory
-/// was refused. `NotUtf8` never comes, since the words are UTF-8 here.
+/// Words that fit the usage give the numbers behind the options, and the defaults where an option is not given. No option gives the
+/// descriptors of a process and the bytes of a path: they are the same for each mount. Other words give `Help`, where help is asked
+/// for first, or else `Usage`, in clap's own words. `NoMemory` may come in place of each, where memory was refused. `NotUtf8` never
+/// comes, since the words are UTF-8 here.
 pub fn read_limits(alloc: Global, words: &[String]) -> Result<Limits, CommandLineFault>
     ensures limits { IfOk result (AreLimits (number_in (map string_bytes words.now))) }
     ensures fits { IfOk result (λ _. fault_of txfs (map string_bytes words.now) ≡ []) }

@@ -1,5 +1,5 @@
 -- How each request is served: by which process, and what is known then.
-use Rattle.std.specs.Prelude.{◌≡◌, ◌⊎◌, ℕ, ◌==◌, ◌<◌, ◌^◌, ◌&&◌, nat_lt, length, Bool, true, false}
+use Rattle.std.specs.Prelude.{◌≡◌, ◌⊎◌, ℕ, ◌==◌, ◌<◌, ◌^◌, ◌&&◌, min, nat_lt, length, Bool, true, false}
 use Rattle.std.specs.Prelude.{Option, Some, None}
 use Rattle.std.specs.Prelude.{option_map, option_and_then, Result, Ok, Err, if◌then◌else◌, List, [], ◌∷◌}
 use Rattle.model.specs.FiniteMap as map
@@ -11,6 +11,7 @@ use Rattle.fuse.specs.declared.reply.Reply.{Reply}
 use Rattle.fuse.specs.declared.reply.Reply.TheVariants as reply
 use Rattle.fuse.specs.declared.request.Operation.{Operation}
 use Rattle.fuse.specs.declared.request.Operation.TheVariants as asked
+use Rattle.history.specs.Log.{Log}
 use Rattle.machine.specs.Shown.{Shown}
 use Rattle.machine.specs.Steps.{forgetting}
 use Rattle.nodes.specs.Tables.{forgotten}
@@ -71,10 +72,14 @@ chosen s node (asked.Write handle offset how flags bytes) = Some (process_by s (
 chosen s node (asked.Lseek handle offset whence) = Some (process_by s (file_at s handle))
 chosen s node _ = Some 1
 
+-- how many descriptors a process of the kernel may have
+abbrev pub most_descriptors : Log → ℕ
+most_descriptors log = min log.bounds.descriptors DESCRIPTORS
+
 -- A process was there that holds files of the plain tree and has a descriptor free, or the first one
 -- made one.
 pub data IsHolder (s : Seen) (old : Shown) (pid : ℕ) (known : Seen) (new : Shown) : Type 0 where
-  Free : (used : ℕ) → map.get s.roles pid ≡ Some (Holder used) → used < DESCRIPTORS → known ≡ s
+  Free : (used : ℕ) → map.get s.roles pid ≡ Some (Holder used) → used < most_descriptors old.log → known ≡ s
       → new ≡ old → IsHolder s old pid known new
   Made : Ran old (forking 1) (Ok pid) new → IsChild old 1 pid new
       → known ≡ record s { roles = map.insert s.roles pid (Holder 0) } → IsHolder s old pid known new

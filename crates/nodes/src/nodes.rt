@@ -26,7 +26,7 @@ pub const FIRST_NUMBER: u64 = 16;
 pub const LAST_NUMBER: u64 = 1 << 62;
 
 /// The most names of a path, and one step more for the root.
-pub const NAMES_LIMIT: u32 = 513;
+pub const NAMES_LIMIT: u32 = 2049;
 
 /// What the numbers of nodes stand for. A number that is none of a node is a root's.
 pub struct Nodes {
@@ -353,7 +353,7 @@ impl Nodes {
 
     /// The root below which a node is, and its path from there, which begins with a slash, or is
     /// empty for the root itself. None where a node on the way is not attached, or the path has more
-    /// than 1,024 bytes.
+    /// than 4,096 bytes.
     pub fn path(&self, heap: Heap, number: u64) -> Result<Option<(u64, Bytes)>, AllocError>
         ensures { IfOk result (λ path. path ≡ path_of self.now.table number) }
     {

@@ -143,7 +143,7 @@ offset_applies : (chosen : List ℕ) (d place : ℕ) (k : Kernel) (o : Option De
 offset_applies chosen d place k None is = record {
   root = refl;
   made = refl;
-  largest = refl;
+  bounds = refl;
   inodes = λ n. refl;
   rights = λ n. refl;
   descriptions = same;
@@ -158,7 +158,7 @@ offset_applies chosen d place k None is = record {
 offset_applies chosen d place k (Some old) is = record {
   root = refl;
   made = refl;
-  largest = refl;
+  bounds = refl;
   inodes = λ n. refl;
   rights = λ n. refl;
   descriptions = moved;
@@ -196,7 +196,7 @@ applies chosen e one k = by_one (λ e. Applies chosen e k (applied chosen e k))
     (λ d x i. record {
       root = refl;
       made = refl;
-      largest = refl;
+      bounds = refl;
       inodes = made_applies Dir_made d x (new_in chosen i) k;
       rights = λ n. refl;
       descriptions = λ d. refl;
@@ -205,7 +205,7 @@ applies chosen e one k = by_one (λ e. Applies chosen e k (applied chosen e k))
     (λ d x i. record {
       root = refl;
       made = refl;
-      largest = refl;
+      bounds = refl;
       inodes = made_applies File_made d x (new_in chosen i) k;
       rights = λ n. refl;
       descriptions = λ d. refl;
@@ -214,7 +214,7 @@ applies chosen e one k = by_one (λ e. Applies chosen e k (applied chosen e k))
     (λ d x fixed i. record {
       root = refl;
       made = refl;
-      largest = refl;
+      bounds = refl;
       inodes = made_applies (Fixed_made fixed) d x (new_in chosen i) k;
       rights = λ n. refl;
       descriptions = λ d. refl;
@@ -223,7 +223,7 @@ applies chosen e one k = by_one (λ e. Applies chosen e k (applied chosen e k))
     (λ d x n. record {
       root = refl;
       made = refl;
-      largest = refl;
+      bounds = refl;
       inodes = λ q. changed_at k.inodes d q (λ o. Directory (remove (names_of_inode o) x));
       rights = λ n. refl;
       descriptions = λ d. refl;
@@ -232,7 +232,7 @@ applies chosen e one k = by_one (λ e. Applies chosen e k (applied chosen e k))
     (λ d x n. record {
       root = refl;
       made = refl;
-      largest = refl;
+      bounds = refl;
       inodes = λ q. changed_at k.inodes d q (λ o. Directory (insert (names_of_inode o) x n));
       rights = λ n. refl;
       descriptions = λ d. refl;
@@ -241,7 +241,7 @@ applies chosen e one k = by_one (λ e. Applies chosen e k (applied chosen e k))
     (λ d x n. record {
       root = refl;
       made = refl;
-      largest = refl;
+      bounds = refl;
       inodes = λ q. changed_at k.inodes d q (λ o. Directory (remove (names_of_inode o) x));
       rights = λ n. refl;
       descriptions = λ d. refl;
@@ -250,7 +250,7 @@ applies chosen e one k = by_one (λ e. Applies chosen e k (applied chosen e k))
     (λ d x e y n replaced. record {
       root = refl;
       made = refl;
-      largest = refl;
+      bounds = refl;
       inodes = moved_applies d x e y n k;
       rights = λ n. refl;
       descriptions = λ d. refl;
@@ -259,7 +259,7 @@ applies chosen e one k = by_one (λ e. Applies chosen e k (applied chosen e k))
     (λ n place bytes before. record {
       root = refl;
       made = refl;
-      largest = refl;
+      bounds = refl;
       inodes = λ q. changed_at k.inodes n q (λ o. File (written (file_of_inode o) place bytes));
       rights = λ n. refl;
       descriptions = λ d. refl;
@@ -268,7 +268,7 @@ applies chosen e one k = by_one (λ e. Applies chosen e k (applied chosen e k))
     (λ n before after. record {
       root = refl;
       made = refl;
-      largest = refl;
+      bounds = refl;
       inodes = λ q. changed_at k.inodes n q (λ o. File (sized after (file_of_inode o)));
       rights = λ n. refl;
       descriptions = λ d. refl;
@@ -277,7 +277,7 @@ applies chosen e one k = by_one (λ e. Applies chosen e k (applied chosen e k))
     (λ i inode mode pid f. record {
       root = refl;
       made = refl;
-      largest = refl;
+      bounds = refl;
       inodes = λ n. refl;
       rights = λ n. refl;
       descriptions = λ d. put_at k.descriptions (new_in chosen i) d (at_start (number chosen inode) mode);
@@ -287,7 +287,7 @@ applies chosen e one k = by_one (λ e. Applies chosen e k (applied chosen e k))
     (λ pid f pipes. record {
       root = refl;
       made = refl;
-      largest = refl;
+      bounds = refl;
       inodes = λ n. refl;
       rights = λ n. refl;
       descriptions = λ d. refl;
@@ -296,7 +296,7 @@ applies chosen e one k = by_one (λ e. Applies chosen e k (applied chosen e k))
     (λ pid f d pipes. record {
       root = refl;
       made = refl;
-      largest = refl;
+      bounds = refl;
       inodes = λ n. refl;
       rights = λ n. refl;
       descriptions = λ e. refl;
@@ -305,7 +305,7 @@ applies chosen e one k = by_one (λ e. Applies chosen e k (applied chosen e k))
     (λ p count. record {
       root = refl;
       made = refl;
-      largest = refl;
+      bounds = refl;
       inodes = λ q. changed_at k.inodes p q (λ o. Pipe (drop count (pipe_of_inode o)));
       rights = λ n. refl;
       descriptions = λ d. refl;
@@ -314,7 +314,7 @@ applies chosen e one k = by_one (λ e. Applies chosen e k (applied chosen e k))
     (λ p bytes. record {
       root = refl;
       made = refl;
-      largest = refl;
+      bounds = refl;
       inodes = λ q. changed_at k.inodes p q (λ o. Pipe (pipe_of_inode o ++ bytes));
       rights = λ n. refl;
       descriptions = λ d. refl;
@@ -323,7 +323,7 @@ applies chosen e one k = by_one (λ e. Applies chosen e k (applied chosen e k))
     (λ i pid f g. record {
       root = refl;
       made = refl;
-      largest = refl;
+      bounds = refl;
       inodes = λ q. put_at k.inodes (new_in chosen i) q (Pipe []);
       rights = λ n. refl;
       descriptions = λ d. two_described k.descriptions (new_in chosen (i + 1)) (new_in chosen (i + 2)) d (at_start (new_in chosen i) to_read) (at_start (new_in chosen i) to_write);
@@ -332,7 +332,7 @@ applies chosen e one k = by_one (λ e. Applies chosen e k (applied chosen e k))
     (λ n rights. record {
       root = refl;
       made = refl;
-      largest = refl;
+      bounds = refl;
       inodes = λ q. refl;
       rights = λ q. put_at k.rights n q rights;
       descriptions = λ d. refl;

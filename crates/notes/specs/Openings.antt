@@ -1,7 +1,9 @@
 -- What noting one thing changes of what is kept of descriptions and of slots.
-use Rattle.std.specs.Prelude.{◌≡◌, ◌≢◌, ℕ, true, List, [], ◌∷◌, Option, Some, None, ⊤}
+use Rattle.std.specs.Prelude.{◌≡◌, ◌≢◌, ℕ, Bool, true, List, [], ◌∷◌, Option, Some, None, ⊤}
+use Rattle.model.specs.FiniteMap.{get}
 use Rattle.model.specs.State.{Description, Process, mapped}
 use Rattle.model.specs.Changes.{at_offset, or_new, with_slot, without_slot}
+use Rattle.fdtable.specs.Pages.{HasRoom}
 use Rattle.fdtable.specs.Patches.{Given}
 use Rattle.notes.specs.declared.opening.Opening.{Opening}
 use Rattle.notes.specs.Patches.{is_new, kept_at, opening_at, reopened, reslotted}
@@ -47,3 +49,10 @@ pub record SameSlots (old new : List (ℕ × Given)) : Type 0 where
 abbrev pub AreOnce : {X : Type 0} → List (ℕ × X) → Type 0
 AreOnce [] = ⊤
 AreOnce (e ∷ es) = (kept_at es e.0 ≡ None) × AreOnce es
+
+-- there is room for each descriptor that is changed of a process, at the same place
+abbrev pub AreRoomy : List (ℕ × Given) → List (List Bool) → Type 0
+AreRoomy [] rooms = ⊤
+AreRoomy (e ∷ es) [] = ⊥
+AreRoomy (e ∷ es) (room ∷ rooms) =
+    ((f : ℕ) → get e.1 f ≢ None → HasRoom room f) × AreRoomy es rooms

@@ -202,7 +202,7 @@ process_after chosen _ pid o = o
 pub record Applies (chosen : List ℕ) (e : Edit) (k after : Kernel) : Type 0 where
   pub root : after.root ≡ k.root
   pub made : after.made ≡ k.made
-  pub largest : after.largest ≡ k.largest
+  pub bounds : after.bounds ≡ k.bounds
   pub inodes : (n : ℕ) → get after.inodes n ≡ inode_after chosen e n (get k.inodes n)
   pub rights : (n : ℕ) → get after.rights n ≡ rights_after e n (get k.rights n)
   pub descriptions : (d : ℕ)
@@ -407,6 +407,17 @@ HasPlaces chosen (Set_offset d place) p = kept_at p.openings d ≢ None
 HasPlaces chosen (Share_slot pid f d pipes) p = kept_at p.slots pid ≢ None
 HasPlaces chosen (Clear_slot pid f pipes) p = kept_at p.slots pid ≢ None
 HasPlaces chosen _ p = ⊥
+
+-- whether an edit is of a slot, and whether a place is for this slot
+abbrev pub NeedsPlace : Edit → Type 0
+NeedsPlace (Set_offset d place) = ⊥
+NeedsPlace _ = ⊤
+
+abbrev pub IsPlaceOf : Edit → ℕ → Type 0
+IsPlaceOf (Open_inode i inode mode pid f) place = place ≡ f
+IsPlaceOf (Share_slot pid f d pipes) place = place ≡ f
+IsPlaceOf (Clear_slot pid f pipes) place = place ≡ f
+IsPlaceOf _ place = ⊥
 
 -- whether an edit is of a description or a slot
 abbrev pub is_last : Edit → Bool

@@ -14,6 +14,7 @@ mod new_rights;
 mod opening;
 mod overlay;
 mod patches;
+mod pipes;
 mod slots;
 
 pub use change::{Contents, InodeChange, Made};

@@ -1,30 +1,28 @@
 // All that a transaction has changed, object by object.
 ghost use Rattle.std.specs.Prelude.{◌≡◌, ◌≢◌, ◌+◌, ◌≤◌, ◌∷◌, [], ℕ, List, length, OnErr, OnOk};
-ghost use Rattle.std.specs.Prelude.{◌<◌, None, Some, true};
+ghost use Rattle.std.specs.Prelude.{◌<◌, None, Some, true, IfOk, IfSome, IsOk, IsSome};
 ghost use Rattle.ids.specs.declared.limits.TheConstants.{LARGEST_FILE};
-ghost use Rattle.model.specs.Changes.{Append, Cut, Make_pipe, Move, Name_file, Put_bytes, Set_rights};
+ghost use Rattle.model.specs.Changes.{Append, Cut, Move, Name_file, Put_bytes, Set_rights};
 ghost use Rattle.model.specs.Changes.{Take, news};
-ghost use Rattle.model.specs.Limits.{descriptor_limit};
 ghost use Rattle.notes.specs.Notes.{SamePatches};
-ghost use Rattle.notes.specs.Openings.{AtOpening, AtSlots, IsOpened, SameOpenings, SameSlots};
 ghost use Rattle.notes.specs.Patches.{kept_at};
 ghost use Rattle.std.specs.List.{AllByRecursion, sum_by};
-ghost use Rattle.notes.specs.Steps.{AreApart, CanEdit, HasPlaces, IsFirst, IsLast};
+ghost use Rattle.notes.specs.Steps.{AreApart, CanEdit, HasPlaces, IsFirst, IsLast, IsPlaceOf};
+ghost use Rattle.notes.specs.Steps.{NeedsPlace};
 ghost use Rattle.notes.specs.Steps.{IsNaming, TakesAll, TakesIn, is_last, making, unnaming};
 ghost use Rattle.notes.specs.declared.change.Made.{Made as What};
 
-use crate::edits::{at_start, end_of, inode_replaced, is_last, number};
+use crate::edits::{at_start, inode_replaced, is_last, number};
 use crate::inodes::Inodes;
 use crate::new_object::NewObject;
 use crate::new_rights::NewRights;
 use crate::opening::Openings;
 use crate::slots::Slots;
+use fdtable::SlotPlace;
 use heap::Heap;
-use ids::{Bytes, Edit, Fd, Name, Num, Pid, Replaced, Rights};
-use objects::{Description, PipeData};
+use ids::{Bytes, Edit, Name, Num, Replaced, Rights};
 use std::alloc::AllocError;
 use std::marker::Model;
-use store::OpenPipe;
 
 /// All that a transaction has changed.
 #[derive(Drop)]
@@ -93,11 +91,21 @@ impl Patches {
         }
     }
 
-    /// Notes an edit of a description or a slot, in its places. It takes no memory.
-    pub(crate) fn note_last(&mut self, chosen: &[Num], edit: &Edit)
+    /// Notes an edit of a description or a slot, in its places. Of the descriptor's place memory is asked
+    /// for where there is none; refused memory changes nothing that shows.
+    pub(crate) fn note_last(
+        &mut self,
+        chosen: &[Num],
+        edit: &Edit,
+        place: Option<SlotPlace>,
+    ) -> Result<(), AllocError>
         requires last { (m : ℕ) × IsLast m edit.now × (m + news edit.now ≤ length chosen.now) }
         requires places { HasPlaces chosen.now edit.now self.old }
-        ensures { TakesIn chosen.now edit.now self.old self.new }
+        requires fits { IfSome place (IsPlaceOf edit.now) }
+        ensures ok { OnOk result (TakesIn chosen.now edit.now self.old self.new) }
+        ensures err { OnErr result (self.new ≡ self.old) }
+        ensures sure { NeedsPlace edit.now → IsSome place → IsOk result }
+        ensures free { (NeedsPlace edit.now → ⊥) → IsOk result }
     {
         match edit {
             Edit::OpenInode {
@@ -109,25 +117,47 @@ impl Patches {
             } => {
                 let description = chosen[*index as usize];
                 let opened = at_start(number(chosen, *inode), *mode);
+                self.slots
+                    .note(*process, *descriptor, Some(description), place)?;
                 self.openings.open(description, opened);
-                self.slots.note(*process, *descriptor, Some(description));
+                Ok(())
             }
             Edit::SetOffset {
                 description,
                 offset,
-            } => self.openings.move_to(*description, *offset),
+            } => {
+                self.openings.move_to(*description, *offset);
+                Ok(())
+            }
             Edit::ShareSlot {
                 process,
                 descriptor,
                 description,
                 ..
-            } => self.slots.note(*process, *descriptor, Some(*description)),
+            } => self
+                .slots
+                .note(*process, *descriptor, Some(*description), place),
             Edit::ClearSlot {
                 process,
                 descriptor,
                 ..
-            } => self.slots.note(*process, *descriptor, None),
+            } => self.slots.note(*process, *descriptor, None, place),
             _ => unreachable!(),
+        }
+    }
+
+    // A place for the descriptor that an edit changes, if it changes one. Refused memory gives none.
+    fn slot_place(&self, edit: &Edit) -> Result<Option<SlotPlace>, AllocError>
+        requires { (m : ℕ) × IsLast m edit.now }
+        ensures fits { IfOk result (λ place. IfSome place (IsPlaceOf edit.now)) }
+        ensures there { IfOk result (λ place. NeedsPlace edit.now → IsSome place) }
+    {
+        let heap = *self.unnamed_inodes.allocator();
+        match edit {
+            Edit::OpenInode { descriptor, .. }
+            | Edit::ShareSlot { descriptor, .. }
+            | Edit::ClearSlot { descriptor, .. } => Ok(Some(SlotPlace::new(heap, *descriptor)?)),
+            _ => Ok(None),
         }
     }
 
@@ -357,71 +387,6 @@ impl Patches {
         self.rights.set(inode, rights)
     }
 
-    // A new pipe, with the descriptors and the descriptions of its two ends.
-    fn make_pipe(
-        &mut self,
-        pipe: Num,
-        pid: Pid,
-        reading: (Fd, Num),
-        writing: (Fd, Num),
-    ) -> Result<(), AllocError>
-        requires apart { reading.1 ≢ writing.1 }
-        requires low { (reading.0 < descriptor_limit) × (writing.0 < descriptor_limit) }
-        ensures ok { OnOk result (TakesIn (pipe ∷ reading.1 ∷ writing.1 ∷ [])
-            (Make_pipe 0 pid reading.0 writing.0) self.old self.new) }
-        ensures err { OnErr result (SamePatches self.old self.new) }
-        ensures openings { (d : ℕ) → kept_at self.old.openings d ≢ None
-            → kept_at self.new.openings d ≢ None }
-        ensures slots { (q : ℕ) → kept_at self.old.slots q ≢ None
-            → kept_at self.new.slots q ≢ None }
-    {
-        let bytes = PipeData::new(*self.unnamed_inodes.allocator())?;
-        self.inodes.make_place(pipe)?;
-        self.make_ends(pid, reading.1, writing.1)?;
-        self.inodes.note_pipe(
-            pipe,
-            OpenPipe {
-                bytes,
-                reader: reading.1,
-                writer: writing.1,
-            },
-        );
-        self.note_end(pid, reading, end_of(pipe, false));
-        self.note_end(pid, writing, end_of(pipe, true));
-        Ok(())
-    }
-
-    // Makes places for two new descriptions and their descriptors. Refused memory changes nothing.
-    fn make_ends(&mut self, pid: Pid, reader: Num, writer: Num) -> Result<(), AllocError>
-        ensures inodes { self.new.inodes ≡ self.old.inodes }
-        ensures rights { self.new.rights ≡ self.old.rights }
-        ensures unnamed_inodes { self.new.unnamed_inodes ≡ self.old.unnamed_inodes }
-        ensures openings { SameOpenings self.old.openings self.new.openings }
-        ensures slots { SameSlots self.old.slots self.new.slots }
-        ensures ok { OnOk result ((kept_at self.new.openings reader ≢ None)
-            × (kept_at self.new.openings writer ≢ None) × (kept_at self.new.slots pid ≢ None)) }
-    {
-        self.openings.make_place(reader)?;
-        self.openings.make_place(writer)?;
-        self.slots.make_place(pid)
-    }
-
-    // Notes a new description with its descriptor, in their places. It takes no memory.
-    fn note_end(&mut self, pid: Pid, end: (Fd, Num), description: Description)
-        requires places { (kept_at self.old.openings end.1 ≢ None)
-            × (kept_at self.old.slots pid ≢ None) }
-        requires low { end.0 < descriptor_limit }
-        ensures inodes { self.new.inodes ≡ self.old.inodes }
-        ensures rights { self.new.rights ≡ self.old.rights }
-        ensures unnamed_inodes { self.new.unnamed_inodes ≡ self.old.unnamed_inodes }
-        ensures openings { AtOpening end.1 (IsOpened description) self.old.openings
-            self.new.openings }
-        ensures slots { AtSlots pid end.0 (Some end.1) self.old.slots self.new.slots }
-    {
-        self.openings.open(end.1, description);
-        self.slots.note(pid, end.0, Some(end.1));
-    }
-
     /// Notes what a call changes: one edit or two, with the new numbers of what they make.
     ///
     /// `AllocError` where memory is refused, or where a count of names would not fit; then all shows as
@@ -472,8 +437,7 @@ impl Patches {
         ensures err { OnErr result (SamePatches self.old self.new) }
     {
         self.make_places(chosen, edit)?;
-        self.note_last(chosen, edit);
-        Ok(())
+        self.note_last(chosen, edit, None)
     }
 
     // A call with two edits: the places for the second are made first.
@@ -488,8 +452,15 @@ impl Patches {
             drop(first);
             return Err(refused);
         }
-        self.note_first(chosen, first)?;
-        self.note_last(chosen, last);
-        Ok(())
+        match self.slot_place(last) {
+            Ok(place) => {
+                self.note_first(chosen, first)?;
+                self.note_last(chosen, last, place)
+            }
+            Err(refused) => {
+                drop(first);
+                Err(refused)
+            }
+        }
     }
 }

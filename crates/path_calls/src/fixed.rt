@@ -78,7 +78,7 @@ pub fn mknod<L: Look>(
 // An object by its path whose content never changes.
 fn made<L: Look>(look: &L, path: &Bytes, fixed: Fixed, reads: &mut Reads) -> Result<Change, Refusal>
     ensures { let k = L.state look.now in
-        Comes k (made k.root path.now fixed) reads.old result reads.new }
+        Comes k (made k.bounds.path_bytes k.root path.now fixed) reads.old result reads.new }
 {
     let last = last_at(look, Errno::EEXIST, path, reads)?;
     absent(last.found)?;

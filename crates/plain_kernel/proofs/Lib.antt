@@ -7,6 +7,7 @@ mod Trees
 mod Keyed
 mod Linked
 mod Opened
+mod LowestFree
 mod Holding
 mod Slots
 mod Setting

@@ -1,5 +1,5 @@
 // A map from numbers to values: a vector in the order of the numbers.
-ghost use Rattle.std.specs.Prelude.{◌≡◌, IsTrue, MatchResult, IfOk, OnErr, OnOk, option_copied};
+ghost use Rattle.std.specs.Prelude.{◌≡◌, ◌≢◌, ◌<◌, ◌≤◌, ℕ, None, IsTrue, MatchResult, IfOk, OnErr, OnOk, option_copied};
 ghost use Rattle.std.specs.Ordering.{nat_cmp};
 ghost use Rattle.model.specs.FiniteMap as map;
 ghost use Rattle.plain_kernel.specs.Indices.{IsIndexOf, IsIndexFor};
@@ -91,6 +91,32 @@ impl<T: Drop> Table<T> {
             }
             Err(_index) => None,
         }
+    }
+
+    // The lowest number from this one on that stands for nothing. It is found by halving: the numbers
+    // rise, so one stands as far behind the first as its place only where all between are there.
+    pub(crate) fn free_from(&self, first: u32) -> usize
+        ensures from { first ≤ result }
+        ensures free { map.get self.now result ≡ None }
+        ensures taken { (n : ℕ) → first ≤ n → n < result → map.get self.now n ≢ None }
+    {
+        let first = first as usize;
+        let slots = self.slots.as_slice();
+        let start = match index_of(slots, Num(first)) {
+            Ok(index) => index,
+            Err(index) => index,
+        };
+        let mut low = start;
+        let mut high = slots.len();
+        while low < high {
+            let middle = low + (high - low) / 2;
+            if slots[middle].0.0 - first == middle - start {
+                low = middle + 1;
+            } else {
+                high = middle;
+            }
+        }
+        first + (low - start)
     }
 
     /// All numbers with their values, rising.

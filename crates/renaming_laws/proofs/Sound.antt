@@ -12,7 +12,7 @@ use Rattle.model.specs.Paths.{is_empty, is_below}
 use Rattle.model.specs.Walks.{parsed, walk, Last, last_of, Place, is_directory, is_link}
 use Rattle.model.specs.Changes.{There, Edit, Open_inode, Set_offset, Share_slot, news, process_of}
 use Rattle.model.specs.Calls.{OpenFlags, Call, Open, Close, Read, Pread, Write, Pwrite, Lseek, Ftruncate, Truncate, Stat, Fstat, Link, Unlink, Rename, Mkdir, Rmdir, List_directory, Symlink, Readlink, Lstat, Mknod, Chmod, Chown, Fchmod, Fchown, Dup, Dup2, Open_pipe, Fork, Exit, Answer, Done, Descriptor, Count, Bytes, Listing, Slot, Own, slot_of, own}
-use Rattle.model.specs.Plans.{Change, changed, free, first_of_free, slot, is_pipe, status, is_special, target_limit, mode, cut_to, opened, read_pipe, read_some, place_to_write, write_some, offset_named, sought, base, moved, replaced_by_name, absent, duplicated, piped, forked, most_moved, whole_write, most_processes}
+use Rattle.model.specs.Plans.{Change, changed, free, first_of_free, slot, is_pipe, status, is_special, target_limit, mode, cut_to, opened, read_pipe, read_some, place_to_write, write_some, offset_named, sought, base, moved, replaced_by_name, absent, duplicated, piped, forked, most_moved, whole_write, most_processes, open_limit}
 use Rattle.model.specs.Steps.{outcome, edits_of}
 use Rattle.model.proofs.Laws.{all_entries}
 use Rattle.call_laws.proofs.Laws.{after_bind, allowed, either_given, weaken, whatever}
@@ -131,48 +131,48 @@ module _ (k : Kernel) where
   pub call_sound : SlotsAreThere k → (pid : ℕ) (call : Call) → IfOk (outcome k pid call) (IsSound k)
   call_sound slots pid (Open path flags) =
       unless (not (is_reading flags || is_writing flags)) EINVAL _ (unless (is_exclusive flags && not (is_creating flags)) EINVAL _ (unless (is_truncating flags && not (is_writing flags)) EINVAL _
-      (then_whatever (parsed path) _ (λ names. then_whatever (first_of_free (free (own k pid (Open path flags)))) _ (λ fd.
+      (then_whatever (parsed k.bounds.path_bytes path) _ (λ names. then_whatever (first_of_free (free (own k pid (Open path flags)))) _ (λ fd.
       then_whatever (last_of k.root (if is_creating flags && is_exclusive flags then EEXIST else EISDIR) names) _ (λ at. open_sound (own k pid (Open path flags)) flags fd at at.found))))))
   call_sound slots pid (Close fd) = with_slot slots pid fd (Close fd) _ (λ it there. record { numbers = (tt, tt); shares = (tt, tt) })
   call_sound slots pid (Read fd count) = with_slot slots pid fd (Read fd count) _ (λ it there. unless (not it.reading) EBADF _ (either (count == 0) _ _ (unchanged_sound (Bytes [])) (read_sound it count)))
   call_sound slots pid (Pread fd count offset) = with_slot slots pid fd (Pread fd count offset) _ (λ it there. unless (not it.reading) EBADF _ (unless (is_pipe it.kind) ESPIPE _ (then_whatever (or_refuse EINVAL (offset_named offset)) _ (λ at.
       either (count == 0) _ _ (unchanged_sound (Bytes [])) (unchanged_sound (Bytes (answer k (Read_file it.inode at (min count most_moved)))))))))
-  call_sound slots pid (Write fd bytes) = with_slot slots pid fd (Write fd bytes) _ (λ it there. unless (not it.writing) EBADF _ (either (is_empty bytes) _ _ (unchanged_sound (Count 0)) (write_sound k.largest it bytes)))
+  call_sound slots pid (Write fd bytes) = with_slot slots pid fd (Write fd bytes) _ (λ it there. unless (not it.writing) EBADF _ (either (is_empty bytes) _ _ (unchanged_sound (Count 0)) (write_sound k.bounds.file_bytes it bytes)))
   call_sound slots pid (Pwrite fd bytes offset) = with_slot slots pid fd (Pwrite fd bytes offset) _ (λ it there. unless (not it.writing) EBADF _ (unless (is_pipe it.kind) ESPIPE _ (then_whatever (or_refuse EINVAL (offset_named offset)) _ (λ at.
-      either (is_empty bytes) _ _ (unchanged_sound (Count 0)) (unless (nat_le k.largest at) EFBIG _ (record { numbers = (tt, tt); shares = (tt, tt) }))))))
-  call_sound slots pid (Lseek fd move whence) = with_slot slots pid fd (Lseek fd move whence) _ (λ it there. unless (is_pipe it.kind) ESPIPE _ (then_whatever (base it whence) _ (λ place. sought_sound k.largest it (pos place +ℤ move))))
+      either (is_empty bytes) _ _ (unchanged_sound (Count 0)) (unless (nat_le k.bounds.file_bytes at) EFBIG _ (record { numbers = (tt, tt); shares = (tt, tt) }))))))
+  call_sound slots pid (Lseek fd move whence) = with_slot slots pid fd (Lseek fd move whence) _ (λ it there. unless (is_pipe it.kind) ESPIPE _ (then_whatever (base it whence) _ (λ place. sought_sound k.bounds.file_bytes it (pos place +ℤ move))))
   call_sound slots pid (Ftruncate fd len) = with_slot slots pid fd (Ftruncate fd len) _ (λ it there.
-      unless (not it.writing) EBADF _ (unless (is_pipe it.kind) EINVAL _ (unless (nat_lt k.largest len) EFBIG _ (record { numbers = (tt, tt); shares = (tt, tt) }))))
-  call_sound slots pid (Truncate path len) = then_whatever (parsed path) _ (λ names. then_whatever (walk (k.root, Some A_directory) names) _ (λ place.
-      unless (is_directory place) EISDIR _ (unless (is_link place) ELOOP _ (unless (is_special place) EINVAL _ (unless (nat_lt k.largest len) EFBIG _ (record { numbers = (tt, tt); shares = (tt, tt) }))))))
-  call_sound slots pid (Stat path) = then_whatever (parsed path) _ (λ names. then_whatever (walk (k.root, Some A_directory) names) _ (λ place. unless (is_link place) ELOOP _ (status_sound place)))
+      unless (not it.writing) EBADF _ (unless (is_pipe it.kind) EINVAL _ (unless (nat_lt k.bounds.file_bytes len) EFBIG _ (record { numbers = (tt, tt); shares = (tt, tt) }))))
+  call_sound slots pid (Truncate path len) = then_whatever (parsed k.bounds.path_bytes path) _ (λ names. then_whatever (walk (k.root, Some A_directory) names) _ (λ place.
+      unless (is_directory place) EISDIR _ (unless (is_link place) ELOOP _ (unless (is_special place) EINVAL _ (unless (nat_lt k.bounds.file_bytes len) EFBIG _ (record { numbers = (tt, tt); shares = (tt, tt) }))))))
+  call_sound slots pid (Stat path) = then_whatever (parsed k.bounds.path_bytes path) _ (λ names. then_whatever (walk (k.root, Some A_directory) names) _ (λ place. unless (is_link place) ELOOP _ (status_sound place)))
   call_sound slots pid (Fstat fd) = with_slot slots pid fd (Fstat fd) _ (λ it there. status_sound (it.inode, it.kind))
-  call_sound slots pid (Link old path) = then_whatever (parsed old) _ (λ from. then_whatever (parsed path) _ (λ to. then_whatever (walk (k.root, Some A_directory) from) _ (λ what.
+  call_sound slots pid (Link old path) = then_whatever (parsed k.bounds.path_bytes old) _ (λ from. then_whatever (parsed k.bounds.path_bytes path) _ (λ to. then_whatever (walk (k.root, Some A_directory) from) _ (λ what.
       unless (is_directory what) EPERM _ (then_whatever (last_of k.root EEXIST to) _ (λ at. then_whatever (absent at.found) _ (λ _. record { numbers = (tt, tt); shares = (tt, tt) }))))))
-  call_sound slots pid (Unlink path) = then_whatever (parsed path) _ (λ names. then_whatever (last_of k.root EPERM names) _ (λ at. then_whatever (or_refuse ENOENT at.found) _ (λ what.
+  call_sound slots pid (Unlink path) = then_whatever (parsed k.bounds.path_bytes path) _ (λ names. then_whatever (last_of k.root EPERM names) _ (λ at. then_whatever (or_refuse ENOENT at.found) _ (λ what.
       unless (is_directory what) EPERM _ (record { numbers = (tt, tt); shares = (tt, tt) }))))
-  call_sound slots pid (Rename old path) = then_whatever (parsed old) _ (λ from. then_whatever (parsed path) _ (λ to. unless (is_empty from || is_empty to) EBUSY _
+  call_sound slots pid (Rename old path) = then_whatever (parsed k.bounds.path_bytes old) _ (λ from. then_whatever (parsed k.bounds.path_bytes path) _ (λ to. unless (is_empty from || is_empty to) EBUSY _
       (then_whatever (last_of k.root EBUSY from) _ (λ at. then_whatever (or_refuse ENOENT at.found) _ (λ what. unless (is_directory what && is_below from to) EINVAL _
       (then_whatever (last_of k.root EBUSY to) _ (λ onto. moved_sound at what onto onto.found)))))))
-  call_sound slots pid (Mkdir path) = then_whatever (parsed path) _ (λ names. then_whatever (last_of k.root EEXIST names) _ (λ at. then_whatever (absent at.found) _ (λ _. record { numbers = (omega arith, tt); shares = (tt, tt) })))
-  call_sound slots pid (Rmdir path) = then_whatever (parsed path) _ (λ names. then_whatever (last_of k.root EBUSY names) _ (λ at. then_whatever (or_refuse ENOENT at.found) _ (λ what.
+  call_sound slots pid (Mkdir path) = then_whatever (parsed k.bounds.path_bytes path) _ (λ names. then_whatever (last_of k.root EEXIST names) _ (λ at. then_whatever (absent at.found) _ (λ _. record { numbers = (omega arith, tt); shares = (tt, tt) })))
+  call_sound slots pid (Rmdir path) = then_whatever (parsed k.bounds.path_bytes path) _ (λ names. then_whatever (last_of k.root EBUSY names) _ (λ at. then_whatever (or_refuse ENOENT at.found) _ (λ what.
       unless (not (is_directory what)) ENOTDIR _ (unless (not (is_empty (answer k (List_names what.0)))) ENOTEMPTY _ (record { numbers = (tt, tt); shares = (tt, tt) })))))
-  call_sound slots pid (List_directory path) = then_whatever (parsed path) _ (λ names. then_whatever (walk (k.root, Some A_directory) names) _ (λ place.
+  call_sound slots pid (List_directory path) = then_whatever (parsed k.bounds.path_bytes path) _ (λ names. then_whatever (walk (k.root, Some A_directory) names) _ (λ place.
       unless (is_link place) ELOOP _ (unless (not (is_directory place)) ENOTDIR _ (unchanged_sound (Listing (answer k (List_names place.0)))))))
   call_sound slots pid (Symlink target path) =
       unless (is_empty target) ENOENT _ (unless (nat_lt target_limit (length target)) ENAMETOOLONG _ (unless (list_any (λ b. b == 0) target) EINVAL _
-      (then_whatever (parsed path) _ (λ names. then_whatever (last_of k.root EEXIST names) _ (λ at. then_whatever (absent at.found) _ (λ _. record { numbers = (omega arith, tt); shares = (tt, tt) }))))))
-  call_sound slots pid (Readlink path) = then_whatever (parsed path) _ (λ names. then_whatever (walk (k.root, Some A_directory) names) _ (λ place.
+      (then_whatever (parsed k.bounds.path_bytes path) _ (λ names. then_whatever (last_of k.root EEXIST names) _ (λ at. then_whatever (absent at.found) _ (λ _. record { numbers = (omega arith, tt); shares = (tt, tt) }))))))
+  call_sound slots pid (Readlink path) = then_whatever (parsed k.bounds.path_bytes path) _ (λ names. then_whatever (walk (k.root, Some A_directory) names) _ (λ place.
       unless (not (is_link place)) EINVAL _ (unchanged_sound (Bytes (answer k (Read_target place.0))))))
-  call_sound slots pid (Lstat path) = then_whatever (parsed path) _ (λ names. then_whatever (walk (k.root, Some A_directory) names) _ (λ place. status_sound place))
-  call_sound slots pid (Mknod path special) = then_whatever (parsed path) _ (λ names. then_whatever (last_of k.root EEXIST names) _ (λ at. then_whatever (absent at.found) _ (λ _. record { numbers = (omega arith, tt); shares = (tt, tt) })))
-  call_sound slots pid (Chmod path permissions) = then_whatever (parsed path) _ (λ names. then_whatever (walk (k.root, Some A_directory) names) _ (λ place. unless (is_link place) ELOOP _ (record { numbers = (tt, tt); shares = (tt, tt) })))
-  call_sound slots pid (Chown path owner) = then_whatever (parsed path) _ (λ names. then_whatever (walk (k.root, Some A_directory) names) _ (λ place. record { numbers = (tt, tt); shares = (tt, tt) }))
+  call_sound slots pid (Lstat path) = then_whatever (parsed k.bounds.path_bytes path) _ (λ names. then_whatever (walk (k.root, Some A_directory) names) _ (λ place. status_sound place))
+  call_sound slots pid (Mknod path special) = then_whatever (parsed k.bounds.path_bytes path) _ (λ names. then_whatever (last_of k.root EEXIST names) _ (λ at. then_whatever (absent at.found) _ (λ _. record { numbers = (omega arith, tt); shares = (tt, tt) })))
+  call_sound slots pid (Chmod path permissions) = then_whatever (parsed k.bounds.path_bytes path) _ (λ names. then_whatever (walk (k.root, Some A_directory) names) _ (λ place. unless (is_link place) ELOOP _ (record { numbers = (tt, tt); shares = (tt, tt) })))
+  call_sound slots pid (Chown path owner) = then_whatever (parsed k.bounds.path_bytes path) _ (λ names. then_whatever (walk (k.root, Some A_directory) names) _ (λ place. record { numbers = (tt, tt); shares = (tt, tt) }))
   call_sound slots pid (Fchmod fd permissions) = then_whatever (slot (own k pid (Fchmod fd permissions)) fd) _ (λ it. record { numbers = (tt, tt); shares = (tt, tt) })
   call_sound slots pid (Fchown fd owner) = then_whatever (slot (own k pid (Fchown fd owner)) fd) _ (λ it. record { numbers = (tt, tt); shares = (tt, tt) })
   call_sound slots pid (Dup fd) = with_slot slots pid fd (Dup fd) _ (λ it there. duplicated_sound (own k pid (Dup fd)) it there (free (own k pid (Dup fd))))
   call_sound slots pid (Dup2 fd other) = with_slot slots pid fd (Dup2 fd other) _ (λ it there.
-      unless (nat_lt 63 other) EBADF _ (either (fd == other) _ _ (unchanged_sound (Descriptor fd)) (record { numbers = (tt, tt); shares = (there, tt) })))
+      unless (nat_le (open_limit (own k pid (Dup2 fd other))) other) EBADF _ (either (fd == other) _ _ (unchanged_sound (Descriptor fd)) (record { numbers = (tt, tt); shares = (there, tt) })))
   call_sound slots pid Open_pipe = piped_sound (own k pid Open_pipe) (free (own k pid Open_pipe))
   call_sound slots pid Fork = forked_sound (own k pid Fork) (own k pid Fork).birth
   call_sound slots pid Exit = record { numbers = (tt, tt); shares = (tt, tt) }

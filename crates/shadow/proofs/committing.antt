@@ -18,3 +18,4 @@ pub mod PlaceAfterChanges
 pub mod UntidiedState
 pub mod InodesAfterChanges
 pub mod RightsSteps
+pub mod HeldSteps

@@ -49,7 +49,7 @@ pub record Agrees (ds : List Effect) (p : Patches) : Type 0 where
   -- is a state that they fit
   pub root : (k : Kernel) → (all_done ds k).root ≡ k.root
   pub count : (k : Kernel) → (all_done ds k).made ≡ k.made
-  pub largest : (k : Kernel) → (all_done ds k).largest ≡ k.largest
+  pub bounds : (k : Kernel) → (all_done ds k).bounds ≡ k.bounds
   pub inodes : (k : Kernel) (n : ℕ) → AllFit ds k
       → get (all_done ds k).inodes n ≡ patched (net_at p.inodes n).contents (get k.inodes n)
   pub rights : (k : Kernel) (n : ℕ)

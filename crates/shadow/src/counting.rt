@@ -6,6 +6,7 @@ ghost use Rattle.model.specs.Changes.{holders};
 ghost use Rattle.notes.specs.Patches.{kept_at, reslotted};
 
 use crate::stable::Stable;
+use fdtable::FdTable;
 use ids::Num;
 use notes::Slots;
 use std::alloc::AllocError;
@@ -18,13 +19,14 @@ pub(crate) fn turnover(slots: &Slots, stable: &Stable, description: Num) -> (u12
         ≡ reslotted (kept_at slots.now pid) (get k.processes pid))
         → holders after description + result.1 ≡ holders k description + result.0 }
 {
+    let none = FdTable::new(stable.heap());
     let mut added = 0;
     let mut taken = 0;
     for i in 0..slots.each.len() {
         let pid = slots.each[i].0;
-        let stored = stable.table(pid);
+        let stored = stable.table(pid, &none);
         taken += stored.count(description) as u128;
-        added += slots.over(pid, stored).count(description) as u128;
+        added += slots.count_over(pid, stored, description) as u128;
     }
     (added, taken)
 }

@@ -11,6 +11,7 @@ mod laying;
 mod processes;
 mod reslotting;
 mod shadow;
+mod slotting;
 mod stable;
 mod view;
 

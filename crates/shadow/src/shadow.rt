@@ -118,15 +118,16 @@ impl Shadow {
             inodes,
             rights,
             openings,
-            mut slots,
+            slots,
             unnamed_inodes,
         } = patches;
         let heap = stable.heap();
         let store = &mut stable.store;
         lay_inodes_with_rights(store, heap, inodes, &rights);
         lay_openings(store, &openings);
-        lay_slots(store, &mut stable.processes, &mut slots);
-        close_former(store, &slots);
+        let (mut each, rooms) = slots.into_parts();
+        lay_slots(store, &mut stable.processes, each.as_mut_slice(), rooms);
+        close_former(store, each.as_slice());
         close_new(store, &openings);
         free_all(store, unnamed_inodes);
     }

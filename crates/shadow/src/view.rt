@@ -2,11 +2,12 @@
 ghost use Rattle.std.specs.Prelude.{◌≡◌, ◌≤◌, IfOk, IfSome, drop};
 ghost use Rattle.std.specs.Prelude.{if◌then◌else◌, length, option_copied, option_map, take};
 ghost use Rattle.ids.specs.declared.limits.TheConstants.{TARGET_LIMIT};
-ghost use Rattle.model.specs.FiniteMap.{get};
+ghost use Rattle.model.specs.FiniteMap.{entries, get};
 ghost use Rattle.model.specs.State.{file_of, kind_of, names_of, pipe_of, target_of};
 ghost use Rattle.model.specs.Changes.{holders, process_of};
 ghost use Rattle.model.specs.Calls.{slot_of};
 ghost use Rattle.model.specs.Effects.{all_done};
+ghost use Rattle.fdtable.specs.Lowest.{IsLowest};
 ghost use Rattle.freeing_laws.specs.Pipes.{ArePair, holders_if, reads, writes};
 ghost use Rattle.freeing_laws.specs.Sweep.{AllFit};
 ghost use Rattle.objects.specs.declared.run.TheConstants.{LARGEST_RUN};
@@ -68,7 +69,7 @@ fn change<'a>(shadow: Option<&'a Shadow>, num: Num) -> Option<&'a InodeChange>
     }
 }
 
-// For the proof: no change changes the root, the largest file, how many processes were made, or a
+// For the proof: no change changes the root, the bounds, how many processes were made, or a
 // priority.
 fn keeps_rest(shadow: Option<&Shadow>)
     ensures { KeepsRest (changes_of (option_map (λ s. s.now) shadow.entry)) }
@@ -214,14 +215,28 @@ impl<'a> View<'a> {
         }
     }
 
-    // A copy of a process's open descriptors.
-    fn own_table(&self, pid: Pid) -> FdTable
-        ensures { result ≡ (process_of self.now.state pid).table }
+    // A process's open descriptors, rising. Refused memory gives nothing.
+    fn own_entries(&self, heap: Heap, pid: Pid) -> Result<Vec<(Fd, Num), Heap>, AllocError>
+        ensures { IfOk result (λ list. list.items
+            ≡ entries (process_of self.now.state pid).table) }
     {
-        let stored = self.stable.table(pid);
+        let none = FdTable::new(heap);
+        let stored = self.stable.table(pid, &none);
         match self.shadow {
-            Some(shadow) => shadow.patches.slots.over(pid, stored),
-            None => stored,
+            Some(shadow) => shadow.patches.slots.entries_over(heap, pid, stored),
+            None => stored.entries(heap),
+        }
+    }
+
+    // The lowest free descriptor of a process below a limit, from this one on.
+    fn lowest(&self, pid: Pid, first: Fd, limit: u32) -> Option<Fd>
+        ensures { IsLowest (process_of self.now.state pid).table first limit result }
+    {
+        let none = FdTable::new(self.stable.heap());
+        let stored = self.stable.table(pid, &none);
+        match self.shadow {
+            Some(shadow) => shadow.patches.slots.lowest_over(pid, stored, first, limit),
+            None => stored.lowest_from(first, limit),
         }
     }
 
@@ -341,9 +356,21 @@ impl<'a> Look for View<'a> {
     }
 
     fn largest(&self) -> u32 {
-        // For the proof: changes leave the largest size of a file.
+        // For the proof: changes leave the bounds.
         keeps_rest(self.shadow);
-        self.stable.largest()
+        self.stable.bounds().file_bytes
+    }
+
+    fn open_limit(&self) -> u32 {
+        // For the proof: changes leave the bounds.
+        keeps_rest(self.shadow);
+        self.stable.bounds().descriptors.min(DESCRIPTORS as u32)
+    }
+
+    fn path_limit(&self) -> u32 {
+        // For the proof: changes leave the bounds.
+        keeps_rest(self.shadow);
+        self.stable.bounds().path_bytes
     }
 
     fn find(&self, dir: Num, name: &Name) -> Option<(Num, Option<Kind>)> {
@@ -445,20 +472,12 @@ impl<'a> Look for View<'a> {
         }
     }
 
-    // It looks at one place after the other, from the first to the answer, and at no other: 64 at
-    // most. A set of bits beside the places would tell it in one step, but each table and each patch
-    // would have to keep one.
     fn free_from(&self, pid: Pid, first: Fd) -> Option<Fd> {
-        for number in first.0..DESCRIPTORS as u32 {
-            if self.given(pid, Fd(number)).is_none() {
-                return Some(Fd(number));
-            }
-        }
-        None
+        self.lowest(pid, first, self.open_limit())
     }
 
     fn table(&self, heap: Heap, pid: Pid) -> Result<Vec<(Fd, Slot), Heap>, AllocError> {
-        let entries = self.own_table(pid).entries(heap)?;
+        let entries = self.own_entries(heap, pid)?;
         let mut slots = Vec::with_capacity(heap, entries.len())?;
         for (fd, description) in &entries {
             slots.push((*fd, self.described(*description)))?;

@@ -62,6 +62,10 @@ mod links;
 #[cfg(test)]
 mod modes;
 #[cfg(test)]
+mod long_paths;
+#[cfg(test)]
+mod many_descriptors;
+#[cfg(test)]
 mod moved;
 #[cfg(test)]
 mod names_of_truncates;

@@ -74,43 +74,43 @@ module _ (k : Kernel) (well : WellFormed k) (pid : ℕ) (alive : IsAlive k pid) 
   size_there n is true = (is, tt)
   size_there n is false = tt
 
-  put_fits : (s : Slot) (bytes : List ℕ) → IsOpen k s → kind_of k s.inode ≡ Some A_file → (place : ℕ) → IfOk (given k (put_at k.largest s bytes place)) Fine
+  put_fits : (s : Slot) (bytes : List ℕ) → IsOpen k s → kind_of k s.inode ≡ Some A_file → (place : ℕ) → IfOk (given k (put_at k.bounds.file_bytes s bytes place)) Fine
   unfolding applied
-  put_fits s bytes held is place = by_test (nat_le k.largest place)
+  put_fits s bytes held is place = by_test (nat_le k.bounds.file_bytes place)
     where
-      by_test : (b : Bool) → IfOk (given k (refuse_if b EFBIG >> (ask (Measure s.inode) >>= (λ size. changed (Count (length (take (room k.largest place) bytes))) (Put_bytes s.inode place (take (room k.largest place) bytes) size ∷ Set_offset s.description (place + length (take (room k.largest place) bytes)) ∷ []))))) Fine
+      by_test : (b : Bool) → IfOk (given k (refuse_if b EFBIG >> (ask (Measure s.inode) >>= (λ size. changed (Count (length (take (room k.bounds.file_bytes place) bytes))) (Put_bytes s.inode place (take (room k.bounds.file_bytes place) bytes) size ∷ Set_offset s.description (place + length (take (room k.bounds.file_bytes place) bytes)) ∷ []))))) Fine
       by_test true = tt
       by_test false = record {
         fits = λ can. ((is, refl), ((held.it, held.there), tt));
         by = (tt, (tt, tt));
-        there = append-all (IsThere k) ((if nat_lt (answer k (Measure s.inode)) (place + length (take (room k.largest place) bytes)) then Size s.inode ∷ [] else []) ++ map (Block s.inode) (blocks place (length (take (room k.largest place) bytes)))) (Offset s.description ∷ [])
-            (append-all (IsThere k) (if nat_lt (answer k (Measure s.inode)) (place + length (take (room k.largest place) bytes)) then Size s.inode ∷ [] else []) (map (Block s.inode) (blocks place (length (take (room k.largest place) bytes))))
+        there = append-all (IsThere k) ((if nat_lt (answer k (Measure s.inode)) (place + length (take (room k.bounds.file_bytes place) bytes)) then Size s.inode ∷ [] else []) ++ map (Block s.inode) (blocks place (length (take (room k.bounds.file_bytes place) bytes)))) (Offset s.description ∷ [])
+            (append-all (IsThere k) (if nat_lt (answer k (Measure s.inode)) (place + length (take (room k.bounds.file_bytes place) bytes)) then Size s.inode ∷ [] else []) (map (Block s.inode) (blocks place (length (take (room k.bounds.file_bytes place) bytes))))
             (size_there s.inode is _) (blocks_there k s.inode is _))
             (described s held, tt);
       }
 
-  pub write_at : (s : Slot) (bytes : List ℕ) → IsOpen k s → IfOk (given k (write_some k.largest s bytes)) Fine
+  pub write_at : (s : Slot) (bytes : List ℕ) → IsOpen k s → IfOk (given k (write_some k.bounds.file_bytes s bytes)) Fine
   write_at s bytes held =
-      either_given k Fine (is_pipe s.kind) (write_pipe s bytes) (place_to_write s s.appending >>= put_at k.largest s bytes)
+      either_given k Fine (is_pipe s.kind) (write_pipe s bytes) (place_to_write s s.appending >>= put_at k.bounds.file_bytes s bytes)
       (λ pipe. write_pipe_at s bytes (sym held.kind ∙ kind_of_pipe s.kind pipe) ((answer k (Count_ends s.inode)).0 == 0))
-      (λ file. after_bind k Fine (place_to_write s s.appending) (put_at k.largest s bytes) (whatever (given k (place_to_write s s.appending)) (λ place.
+      (λ file. after_bind k Fine (place_to_write s s.appending) (put_at k.bounds.file_bytes s bytes) (whatever (given k (place_to_write s s.appending)) (λ place.
       put_fits s bytes held (sym held.kind ∙ kind_of_file s.kind held.can_be_opened file) place)))
 
-  pub put_from : (s : Slot) (bytes : List ℕ) → IsOpen k s → is_pipe s.kind ≡ false → (offset : ℕ) → IfOk (given k (write_from k.largest s.inode offset bytes)) Fine
+  pub put_from : (s : Slot) (bytes : List ℕ) → IsOpen k s → is_pipe s.kind ≡ false → (offset : ℕ) → IfOk (given k (write_from k.bounds.file_bytes s.inode offset bytes)) Fine
   unfolding applied
   put_from s bytes held file offset =
       let is : kind_of k s.inode ≡ Some A_file = sym held.kind ∙ kind_of_file s.kind held.can_be_opened file in
-      allowed k Fine (nat_le k.largest offset) EFBIG (ask (Measure s.inode) >>= (λ size. changed (Count (length (take (room k.largest offset) bytes))) (Put_bytes s.inode offset (take (room k.largest offset) bytes) size ∷ []))) (λ _. record {
+      allowed k Fine (nat_le k.bounds.file_bytes offset) EFBIG (ask (Measure s.inode) >>= (λ size. changed (Count (length (take (room k.bounds.file_bytes offset) bytes))) (Put_bytes s.inode offset (take (room k.bounds.file_bytes offset) bytes) size ∷ []))) (λ _. record {
         fits = λ can. ((is, refl), tt);
         by = (tt, tt);
-        there = append-all (IsThere k) ((if nat_lt (answer k (Measure s.inode)) (offset + length (take (room k.largest offset) bytes)) then Size s.inode ∷ [] else []) ++ map (Block s.inode) (blocks offset (length (take (room k.largest offset) bytes)))) []
-            (append-all (IsThere k) (if nat_lt (answer k (Measure s.inode)) (offset + length (take (room k.largest offset) bytes)) then Size s.inode ∷ [] else []) (map (Block s.inode) (blocks offset (length (take (room k.largest offset) bytes))))
+        there = append-all (IsThere k) ((if nat_lt (answer k (Measure s.inode)) (offset + length (take (room k.bounds.file_bytes offset) bytes)) then Size s.inode ∷ [] else []) ++ map (Block s.inode) (blocks offset (length (take (room k.bounds.file_bytes offset) bytes)))) []
+            (append-all (IsThere k) (if nat_lt (answer k (Measure s.inode)) (offset + length (take (room k.bounds.file_bytes offset) bytes)) then Size s.inode ∷ [] else []) (map (Block s.inode) (blocks offset (length (take (room k.bounds.file_bytes offset) bytes))))
             (size_there s.inode is _) (blocks_there k s.inode is _))
             tt;
       })
 
-  pub seek_at : (s : Slot) (to : ℤ) → IsOpen k s → IfOk (given k (sought k.largest s to)) Fine
-  seek_at s (pos place) held = allowed k Fine (nat_lt k.largest place) EINVAL (changed (New_place place) (Set_offset s.description place ∷ [])) (λ _. record { fits = λ can. ((held.it, held.there), tt); by = (tt, tt); there = (described s held, tt) })
+  pub seek_at : (s : Slot) (to : ℤ) → IsOpen k s → IfOk (given k (sought k.bounds.file_bytes s to)) Fine
+  seek_at s (pos place) held = allowed k Fine (nat_lt k.bounds.file_bytes place) EINVAL (changed (New_place place) (Set_offset s.description place ∷ [])) (λ _. record { fits = λ can. ((held.it, held.there), tt); by = (tt, tt); there = (described s held, tt) })
   seek_at s (negsuc place) held = tt
 
   length_there : (n : ℕ) → kind_of k n ≡ Some A_file → (b : Bool) → AllByRecursion (IsThere k) (if b then [] else Size n ∷ [])

@@ -11,7 +11,7 @@ use Rattle.model.specs.Paths.{is_empty, is_below, path_names}
 use Rattle.model.specs.Walks.{Place, Last, told, parsed, walk, last_of, is_directory, is_link}
 use Rattle.ids.specs.Flags.{is_reading, is_writing, is_creating, is_exclusive, is_truncating}
 use Rattle.model.specs.Calls.{OpenFlags, Call, Open, Close, Read, Pread, Write, Pwrite, Lseek, Ftruncate, Truncate, Stat, Fstat, Link, Unlink, Rename, Mkdir, Rmdir, List_directory, Symlink, Readlink, Lstat, Mknod, Chmod, Chown, Fchmod, Fchown, Dup, Dup2, Open_pipe, Fork, Exit, Done, Descriptor, Count, Bytes, Slot, Own, own}
-use Rattle.model.specs.Plans.{Change, changed, unchanged, target_limit, most_processes, mode, cut_to, absent, status, is_special, slot, is_pipe, read_pipe, read_some, place_to_write, write_some, offset_named, base, sought, replaced_by_name, moved, opened, free, first_of_free, duplicated, piped}
+use Rattle.model.specs.Plans.{Change, changed, unchanged, target_limit, most_processes, mode, cut_to, absent, status, is_special, slot, is_pipe, read_pipe, read_some, place_to_write, write_some, offset_named, base, sought, replaced_by_name, moved, opened, free, first_of_free, duplicated, piped, open_limit}
 use Rattle.model.specs.Steps.{outcome, reads, edits_of, edits}
 use Rattle.model.proofs.Laws.{all-append, append-all, goes_the_same_way}
 use Rattle.call_laws.specs.WellFormed.{WellFormed}
@@ -55,13 +55,13 @@ module _ (k : Kernel) (P : ℕ → Type 0) where
       allowed k (Fine P) (nat_lt fitting (length bytes) && nat_le (length bytes) 512) EAGAIN (refuse_if (fitting == 0) EAGAIN >> changed (Count fitting) (Append s.inode (take fitting bytes) ∷ [])) (λ _.
       allowed k (Fine P) (fitting == 0) EAGAIN (changed (Count fitting) (Append s.inode (take fitting bytes) ∷ [])) (λ _. (tt, tt))))
 
-  write_links : (s : Slot) (bytes : List ℕ) → IfOk (given k (write_some k.largest s bytes)) (Fine P)
-  write_links s bytes = either_given k (Fine P) (is_pipe s.kind) (write_pipe s bytes) (place_to_write s s.appending >>= put_at k.largest s bytes)
+  write_links : (s : Slot) (bytes : List ℕ) → IfOk (given k (write_some k.bounds.file_bytes s bytes)) (Fine P)
+  write_links s bytes = either_given k (Fine P) (is_pipe s.kind) (write_pipe s bytes) (place_to_write s s.appending >>= put_at k.bounds.file_bytes s bytes)
       (λ _. pipe_links s bytes)
-      (λ _. after_bind k (Fine P) (place_to_write s s.appending) (put_at k.largest s bytes) (whatever (given k (place_to_write s s.appending)) (λ place. allowed k (Fine P) (nat_le k.largest place) EFBIG _ (λ _. (tt, (tt, tt))))))
+      (λ _. after_bind k (Fine P) (place_to_write s s.appending) (put_at k.bounds.file_bytes s bytes) (whatever (given k (place_to_write s s.appending)) (λ place. allowed k (Fine P) (nat_le k.bounds.file_bytes place) EFBIG _ (λ _. (tt, (tt, tt))))))
 
-  sought_links : (s : Slot) (to : ℤ) → IfOk (given k (sought k.largest s to)) (Fine P)
-  sought_links s (pos place) = allowed k (Fine P) (nat_lt k.largest place) EINVAL _ (λ _. (tt, tt))
+  sought_links : (s : Slot) (to : ℤ) → IfOk (given k (sought k.bounds.file_bytes s to)) (Fine P)
+  sought_links s (pos place) = allowed k (Fine P) (nat_lt k.bounds.file_bytes place) EINVAL _ (λ _. (tt, tt))
   sought_links s (negsuc place) = tt
 
   cut_links : (f n pid : ℕ) (how : Mode) (b : Bool) → IfOk (given k ((if b then cut_to n 0 else Give []) >>= (λ cut. changed (Descriptor f) (cut ++ Open_inode 0 (There n) how pid f ∷ [])))) (Fine P)
@@ -94,10 +94,10 @@ module _ (k : Kernel) (P : ℕ → Type 0) where
       after_bind k (Fine P) (replaced_by_name old.0 (is_directory old)) _ (whatever (given k (replaced_by_name old.0 (is_directory old))) (λ replaced. (tt, tt))))))
 
   -- a path with its names, a slot, a last name, what is found, a walk
-  with_path : (path : List ℕ) (f : List Name → Plan Change) → ((names : List Name) → path_names path ≡ Ok names → IfOk (given k (f names)) (Fine P)) → IfOk (given k (parsed path >>= f)) (Fine P)
-  with_path path f h = by_result (path_names path) refl
+  with_path : (path : List ℕ) (f : List Name → Plan Change) → ((names : List Name) → path_names k.bounds.path_bytes path ≡ Ok names → IfOk (given k (f names)) (Fine P)) → IfOk (given k (parsed k.bounds.path_bytes path >>= f)) (Fine P)
+  with_path path f h = by_result (path_names k.bounds.path_bytes path) refl
     where
-      by_result : (r : Result (List Name) Errno) → path_names path ≡ r → IfOk (given k (told r >>= f)) (Fine P)
+      by_result : (r : Result (List Name) Errno) → path_names k.bounds.path_bytes path ≡ r → IfOk (given k (told r >>= f)) (Fine P)
       by_result (Ok names) e = h names e
       by_result (Err e) is = tt
 
@@ -106,7 +106,7 @@ module _ (k : Kernel) (P : ℕ → Type 0) where
 
   -- what `link` finds at its first path
   abbrev Finds : Call → Type 0
-  Finds (Link old path) = (from to : List Name) → path_names old ≡ Ok from → path_names path ≡ Ok to → IfOk (given k (walk (k.root, Some A_directory) from)) (λ what. P what.0)
+  Finds (Link old path) = (from to : List Name) → path_names k.bounds.path_bytes old ≡ Ok from → path_names k.bounds.path_bytes path ≡ Ok to → IfOk (given k (walk (k.root, Some A_directory) from)) (λ what. P what.0)
   Finds call = ⊤
 
   links_first : (pid : ℕ) (call : Call) → Finds call → IfOk (outcome k pid call) (Fine P)
@@ -131,18 +131,18 @@ module _ (k : Kernel) (P : ℕ → Type 0) where
       allowed k (Fine P) (not s.writing) EBADF _ (λ _.
       allowed k (Fine P) (is_pipe s.kind) ESPIPE _ (λ _.
       with_any (or_refuse EINVAL (offset_named offset)) _ (λ at.
-      either_given k (Fine P) (is_empty bytes) _ _ (λ _. tt) (λ _. allowed k (Fine P) (nat_le k.largest at) EFBIG _ (λ _. (tt, tt)))))))
+      either_given k (Fine P) (is_empty bytes) _ _ (λ _. tt) (λ _. allowed k (Fine P) (nat_le k.bounds.file_bytes at) EFBIG _ (λ _. (tt, tt)))))))
   links_first pid (Lseek f move whence) h = with_any (slot (own k pid (Lseek f move whence)) f) _ (λ s.
       allowed k (Fine P) (is_pipe s.kind) ESPIPE _ (λ _. with_any (base s whence) _ (λ place. sought_links s (pos place +ℤ move))))
   links_first pid (Ftruncate f len) h = with_any (slot (own k pid (Ftruncate f len)) f) _ (λ s.
       allowed k (Fine P) (not s.writing) EBADF _ (λ _.
-      allowed k (Fine P) (is_pipe s.kind) EINVAL _ (λ _. allowed k (Fine P) (nat_lt k.largest len) EFBIG _ (λ _. (tt, tt)))))
+      allowed k (Fine P) (is_pipe s.kind) EINVAL _ (λ _. allowed k (Fine P) (nat_lt k.bounds.file_bytes len) EFBIG _ (λ _. (tt, tt)))))
   links_first pid (Truncate path len) h =
       with_path path _ (λ names _. with_any (walk (k.root, Some A_directory) names) _ (λ place.
       allowed k (Fine P) (is_directory place) EISDIR _ (λ _.
       allowed k (Fine P) (is_link place) ELOOP _ (λ _.
       allowed k (Fine P) (is_special place) EINVAL _ (λ _.
-      allowed k (Fine P) (nat_lt k.largest len) EFBIG _ (λ _. (tt, tt)))))))
+      allowed k (Fine P) (nat_lt k.bounds.file_bytes len) EFBIG _ (λ _. (tt, tt)))))))
   links_first pid (Stat path) h = with_path path _ (λ names _. with_any (walk (k.root, Some A_directory) names) _ (λ place. allowed k (Fine P) (is_link place) ELOOP _ (λ _. status_links place)))
   links_first pid (Fstat f) h = with_any (slot (own k pid (Fstat f)) f) _ (λ s. status_links (s.inode, s.kind))
   links_first pid (Link old path) h =
@@ -177,7 +177,7 @@ module _ (k : Kernel) (P : ℕ → Type 0) where
   links_first pid (Fchown f owner) h = with_any (slot (own k pid (Fchown f owner)) f) _ (λ s. (tt, tt))
   links_first pid (Dup f) h = with_any (slot (own k pid (Dup f)) f) _ (λ s. duplicated_links (own k pid (Dup f)) s (free (own k pid (Dup f))))
   links_first pid (Dup2 f g) h = with_any (slot (own k pid (Dup2 f g)) f) _ (λ s.
-      allowed k (Fine P) (nat_lt 63 g) EBADF _ (λ _. either_given k (Fine P) (f == g) _ _ (λ _. tt) (λ _. (tt, tt))))
+      allowed k (Fine P) (nat_le (open_limit (own k pid (Dup2 f g))) g) EBADF _ (λ _. either_given k (Fine P) (f == g) _ _ (λ _. tt) (λ _. (tt, tt))))
   links_first pid Open_pipe h = piped_links (own k pid Open_pipe) (free (own k pid Open_pipe))
   links_first pid Fork h = allowed k (Fine P) (nat_le most_processes k.made) EAGAIN _ (λ _. (tt, tt))
   links_first pid Exit h = (tt, tt)
@@ -204,11 +204,11 @@ one_walk k l well well_too root names kept =
     one_place k l (given k (walk (k.root, Some A_directory) names)) here (subst (λ r. IfOk r (IsPlace l)) way.given there)
 
 -- the first path's walk is seen, where both are paths
-walk_seen : (k l : Kernel) (pid : ℕ) (old path : List ℕ) (from to : List Name) → path_names old ≡ Ok from → path_names path ≡ Ok to → KeepsAll k l (reads k pid (Link old path)) → KeepsAll k l (seen k (walk (k.root, Some A_directory) from))
+walk_seen : (k l : Kernel) (pid : ℕ) (old path : List ℕ) (from to : List Name) → path_names k.bounds.path_bytes old ≡ Ok from → path_names k.bounds.path_bytes path ≡ Ok to → KeepsAll k l (reads k pid (Link old path)) → KeepsAll k l (seen k (walk (k.root, Some A_directory) from))
 walk_seen k l pid old path from to is is_too kept =
     seen_first k l (walk (k.root, Some A_directory) from) (rest to)
     (subst (λ r. KeepsAll k l (seen k (told r >>= (λ names. walk (k.root, Some A_directory) from >>= rest names)))) is_too
-    (subst (λ r. KeepsAll k l (seen k (told r >>= (λ names. parsed path >>= (λ others. walk (k.root, Some A_directory) names >>= rest others))))) is kept))
+    (subst (λ r. KeepsAll k l (seen k (told r >>= (λ names. parsed k.bounds.path_bytes path >>= (λ others. walk (k.root, Some A_directory) names >>= rest others))))) is kept))
   where
     rest : List Name → Place → Plan Change
     rest to what = refuse_if (is_directory what) EPERM >> (last_of k.root EEXIST to >>= (λ at. absent at.found >> changed Done (Name_file at.parent at.name what.0 ∷ [])))

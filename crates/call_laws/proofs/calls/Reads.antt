@@ -10,7 +10,7 @@ use Rattle.model.specs.Walks.{Place, told, parsed, is_directory, is_link, walk, 
 use Rattle.model.specs.Changes.{Mode, There, Move, Set_offset, Append, Open_inode, is_held, Replaced, Over_directory}
 use Rattle.ids.specs.Flags.{is_reading, is_writing, is_creating, is_exclusive, is_truncating}
 use Rattle.model.specs.Calls.{OpenFlags, Whence, From_start, From_offset, From_end, Call, Open, Close, Read, Pread, Write, Pwrite, Lseek, Ftruncate, Truncate, Stat, Fstat, Link, Unlink, Rename, Mkdir, Rmdir, List_directory, Symlink, Readlink, Lstat, Mknod, Chmod, Chown, Fchmod, Fchown, Dup, Dup2, Open_pipe, Fork, Exit, Done, Descriptor, Count, New_place, Bytes, Slot, own}
-use Rattle.model.specs.Plans.{Change, target_limit, absent, status, is_special, changed, unchanged, slot, slot_at, is_pipe, read_pipe, read_some, place_to_write, write_some, most_moved, offset_named, read_from, write_from, base, sought, replaced_by_name, moved, cut_to, opened, mode, free, first_of_free, duplicated, piped}
+use Rattle.model.specs.Plans.{Change, target_limit, absent, status, is_special, changed, unchanged, slot, slot_at, is_pipe, read_pipe, read_some, place_to_write, write_some, most_moved, offset_named, read_from, write_from, base, sought, replaced_by_name, moved, cut_to, opened, mode, free, first_of_free, duplicated, piped, open_limit}
 use Rattle.model.specs.Steps.{reads}
 use Rattle.model.proofs.Laws.{all-append, append-all}
 use Rattle.call_laws.specs.Objects.{IsThere}
@@ -89,8 +89,8 @@ either k true m n h g = h refl
 either k false m n h g = g refl
 
 -- a path asks nothing
-with_path : {A : Type 0} (k : Kernel) (path : List ℕ) (f : List Name → Plan A) → ((names : List Name) → AllLeft k (seen k (f names))) → AllLeft k (seen k (parsed path >>= f))
-with_path {A} k path f h = by_result (path_names path)
+with_path : {A : Type 0} (k : Kernel) (path : List ℕ) (f : List Name → Plan A) → ((names : List Name) → AllLeft k (seen k (f names))) → AllLeft k (seen k (parsed k.bounds.path_bytes path >>= f))
+with_path {A} k path f h = by_result (path_names k.bounds.path_bytes path)
   where
     by_result : (r : Result (List Name) Errno) → AllLeft k (seen k (told r >>= f))
     by_result (Ok names) = h names
@@ -271,19 +271,19 @@ module _ (k : Kernel) (well : WellFormed k) where
       fitting : ℕ
       fitting = answer k (Fit s.inode (length bytes))
 
-  put_seen : (s : Slot) (bytes : List ℕ) (place : ℕ) → Stays k s.inode A_file → AllLeft k (seen k (put_at k.largest s bytes place))
-  put_seen s bytes place n = refusal k (nat_le k.largest place) EFBIG _ (λ _. (n, tt))
+  put_seen : (s : Slot) (bytes : List ℕ) (place : ℕ) → Stays k s.inode A_file → AllLeft k (seen k (put_at k.bounds.file_bytes s bytes place))
+  put_seen s bytes place n = refusal k (nat_le k.bounds.file_bytes place) EFBIG _ (λ _. (n, tt))
 
-  write_seen : (s : Slot) (bytes : List ℕ) → IsOpen k s → AllLeft k (seen k (write_some k.largest s bytes))
-  write_seen s bytes held = either k (is_pipe s.kind) (write_pipe s bytes) (place_to_write s s.appending >>= put_at k.largest s bytes) (λ pipe. pipe_written_seen s bytes (pipe_stays s held pipe))
-      (λ file. seen_bind k (place_to_write s s.appending) (put_at k.largest s bytes) (place_seen s held (open_stays s held file) s.appending) (whatever (given k (place_to_write s s.appending)) (λ place. put_seen s bytes place (open_stays s held file))))
+  write_seen : (s : Slot) (bytes : List ℕ) → IsOpen k s → AllLeft k (seen k (write_some k.bounds.file_bytes s bytes))
+  write_seen s bytes held = either k (is_pipe s.kind) (write_pipe s bytes) (place_to_write s s.appending >>= put_at k.bounds.file_bytes s bytes) (λ pipe. pipe_written_seen s bytes (pipe_stays s held pipe))
+      (λ file. seen_bind k (place_to_write s s.appending) (put_at k.bounds.file_bytes s bytes) (place_seen s held (open_stays s held file) s.appending) (whatever (given k (place_to_write s s.appending)) (λ place. put_seen s bytes place (open_stays s held file))))
 
   read_from_seen : (n offset count : ℕ) → Stays k n A_file → AllLeft k (seen k (read_from n offset count))
   read_from_seen n offset count stays =
       append-all (IsLeft k) (shown (Read_file n offset (min count most_moved)) (answer k (Read_file n offset (min count most_moved)))) [] (stays, each_block n stays _) tt
 
-  write_from_seen : (n offset : ℕ) (bytes : List ℕ) → Stays k n A_file → AllLeft k (seen k (write_from k.largest n offset bytes))
-  write_from_seen n offset bytes stays = refusal k (nat_le k.largest offset) EFBIG _ (λ _. (stays, tt))
+  write_from_seen : (n offset : ℕ) (bytes : List ℕ) → Stays k n A_file → AllLeft k (seen k (write_from k.bounds.file_bytes n offset bytes))
+  write_from_seen n offset bytes stays = refusal k (nat_le k.bounds.file_bytes offset) EFBIG _ (λ _. (stays, tt))
 
   -- an offset that a call names asks nothing
   named_seen : {A : Type 0} (offset : ℤ) (f : ℕ → Plan A) → ((at : ℕ) → AllLeft k (seen k (f at))) → AllLeft k (seen k (or_refuse EINVAL (offset_named offset) >>= f))
@@ -295,8 +295,8 @@ module _ (k : Kernel) (well : WellFormed k) where
   base_seen s From_offset held file = (place_stays s held, tt)
   base_seen s From_end held file = (open_stays s held file, tt)
 
-  sought_seen : (s : Slot) (to : ℤ) → AllLeft k (seen k (sought k.largest s to))
-  sought_seen s (pos place) = refusal k (nat_lt k.largest place) EINVAL (changed (New_place place) (Set_offset s.description place ∷ [])) (λ _. tt)
+  sought_seen : (s : Slot) (to : ℤ) → AllLeft k (seen k (sought k.bounds.file_bytes s to))
+  sought_seen s (pos place) = refusal k (nat_lt k.bounds.file_bytes place) EINVAL (changed (New_place place) (Set_offset s.description place ∷ [])) (λ _. tt)
   sought_seen s (negsuc place) = tt
 
   -- what asks nothing
@@ -335,13 +335,13 @@ calls_see k pid (Close f) well = with_slot k well pid (Close f) f _ (λ s held. 
 calls_see k pid (Read f count) well = with_slot k well pid (Read f count) f _ (λ s held. refusal k (not s.reading) EBADF _ (λ _. either k (count == 0) (unchanged (Bytes [])) (read_some s count) (λ _. tt) (λ _. read_seen k well s count held)))
 calls_see k pid (Pread f count offset) well = with_slot k well pid (Pread f count offset) f _ (λ s held. refusal k (not s.reading) EBADF _ (λ _. refusal k (is_pipe s.kind) ESPIPE _ (λ file. named_seen k well offset _ (λ at.
     either k (count == 0) (unchanged (Bytes [])) (read_from s.inode at count) (λ _. tt) (λ _. read_from_seen k well s.inode at count (open_stays k well s held file))))))
-calls_see k pid (Write f bytes) well = with_slot k well pid (Write f bytes) f _ (λ s held. refusal k (not s.writing) EBADF _ (λ _. either k (is_empty bytes) (unchanged (Count 0)) (write_some k.largest s bytes) (λ _. tt) (λ _. write_seen k well s bytes held)))
+calls_see k pid (Write f bytes) well = with_slot k well pid (Write f bytes) f _ (λ s held. refusal k (not s.writing) EBADF _ (λ _. either k (is_empty bytes) (unchanged (Count 0)) (write_some k.bounds.file_bytes s bytes) (λ _. tt) (λ _. write_seen k well s bytes held)))
 calls_see k pid (Pwrite f bytes offset) well = with_slot k well pid (Pwrite f bytes offset) f _ (λ s held. refusal k (not s.writing) EBADF _ (λ _. refusal k (is_pipe s.kind) ESPIPE _ (λ file. named_seen k well offset _ (λ at.
-    either k (is_empty bytes) (unchanged (Count 0)) (write_from k.largest s.inode at bytes) (λ _. tt) (λ _. write_from_seen k well s.inode at bytes (open_stays k well s held file))))))
+    either k (is_empty bytes) (unchanged (Count 0)) (write_from k.bounds.file_bytes s.inode at bytes) (λ _. tt) (λ _. write_from_seen k well s.inode at bytes (open_stays k well s held file))))))
 calls_see k pid (Lseek f move whence) well = with_slot k well pid (Lseek f move whence) f _ (λ s held. refusal k (is_pipe s.kind) ESPIPE _ (λ file.
     seen_bind k (base s whence) _ (base_seen k well s whence held file) (whatever (given k (base s whence)) (λ place. sought_seen k well s (pos place +ℤ move)))))
-calls_see k pid (Ftruncate f len) well = with_slot k well pid (Ftruncate f len) f _ (λ s held. refusal k (not s.writing) EBADF _ (λ _. refusal k (is_pipe s.kind) EINVAL _ (λ file. refusal k (nat_lt k.largest len) EFBIG _ (λ _. (open_stays k well s held file, tt)))))
-calls_see k pid (Truncate path len) well = with_path k path _ (λ names. with_walk k well names _ (λ place r. refusal k (is_directory place) EISDIR _ (λ file. refusal k (is_link place) ELOOP _ (λ no_link. refusal k (is_special place) EINVAL _ (λ plain. refusal k (nat_lt k.largest len) EFBIG _ (λ _. (file_stays k well place r file no_link plain, tt)))))))
+calls_see k pid (Ftruncate f len) well = with_slot k well pid (Ftruncate f len) f _ (λ s held. refusal k (not s.writing) EBADF _ (λ _. refusal k (is_pipe s.kind) EINVAL _ (λ file. refusal k (nat_lt k.bounds.file_bytes len) EFBIG _ (λ _. (open_stays k well s held file, tt)))))
+calls_see k pid (Truncate path len) well = with_path k path _ (λ names. with_walk k well names _ (λ place r. refusal k (is_directory place) EISDIR _ (λ file. refusal k (is_link place) ELOOP _ (λ no_link. refusal k (is_special place) EINVAL _ (λ plain. refusal k (nat_lt k.bounds.file_bytes len) EFBIG _ (λ _. (file_stays k well place r file no_link plain, tt)))))))
 calls_see k pid (Stat path) well = with_path k path _ (λ names. with_walk k well names _ (λ place r. refusal k (is_link place) ELOOP _ (λ _. status_seen k well place r.right (rooted_reached k place.0 r.rooted))))
 calls_see k pid (Fstat f) well = with_slot k well pid (Fstat f) f _ (λ s held. status_seen k well (s.inode, s.kind) held.kind held.reached)
 calls_see k pid (Link old path) well = with_path k old _ (λ from. with_path k path _ (λ to. with_walk k well from _ (λ what r. refusal k (is_directory what) EPERM _ (λ _.
@@ -367,7 +367,7 @@ calls_see k pid (Chown path owner) well = with_path k path _ (λ names. with_wal
 calls_see k pid (Fchmod f permissions) well = with_slot k well pid (Fchmod f permissions) f _ (λ s held. (slot_there k well s held, tt))
 calls_see k pid (Fchown f owner) well = with_slot k well pid (Fchown f owner) f _ (λ s held. (slot_there k well s held, tt))
 calls_see k pid (Dup f) well = with_slot k well pid (Dup f) f _ (λ s held. duplicated_seen k well pid (Dup f) s (free (own k pid (Dup f))))
-calls_see k pid (Dup2 f g) well = with_slot k well pid (Dup2 f g) f _ (λ s held. refusal k (nat_lt 63 g) EBADF _ (λ _. either k (f == g) (unchanged (Descriptor f)) _ (λ _. tt) (λ _. tt)))
+calls_see k pid (Dup2 f g) well = with_slot k well pid (Dup2 f g) f _ (λ s held. refusal k (nat_le (open_limit (own k pid (Dup2 f g))) g) EBADF _ (λ _. either k (f == g) (unchanged (Descriptor f)) _ (λ _. tt) (λ _. tt)))
 calls_see k pid Open_pipe well = piped_seen k well pid Open_pipe (free (own k pid Open_pipe))
 calls_see k pid Fork well = refusal k (nat_le 4096 k.made) EAGAIN _ (λ _. tt)
 calls_see k pid Exit well = tt

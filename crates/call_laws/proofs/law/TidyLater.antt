@@ -35,7 +35,7 @@ SameAt a b n = (get b.inodes n ≡ get a.inodes n) × (get b.rights n ≡ get a.
 -- two states that are alike in all that something leads to
 pub record Alike (a b : Kernel) : Type 0 where
   pub root : b.root ≡ a.root
-  pub largest : b.largest ≡ a.largest
+  pub bounds : b.bounds ≡ a.bounds
   pub processes : b.processes ≡ a.processes
   pub made : b.made ≡ a.made
   pub held : (d : ℕ) → is_held a d ≡ true → get b.descriptions d ≡ get a.descriptions d
@@ -52,13 +52,13 @@ alike_tidied a b al =
     ap₂ (λ (x : Bool) (y : Bool). x || y) (ap (λ r. n == r) al.root) (ap₂ (λ (x : Bool) (y : Bool). x || y) (ap (nat_lt 0) (al.links n)) (ap (λ (ds : FinMap nat_cmp Description). nat_lt 0 (count_by (λ d. d.inode == n) (values ds))) descriptions)) in
     let kept : retain_keys b.inodes (reached b) ≡ retain_keys a.inodes (reached a) = retained_alike a.inodes b.inodes (reached a) (reached b) tests (λ n e. (al.inodes n e).0) in
     let set : retain_keys b.rights (reached b) ≡ retain_keys a.rights (reached a) = retained_alike a.rights b.rights (reached a) (reached b) tests (λ n e. (al.inodes n e).1) in
-    λ i. record { root = al.root i; inodes = kept i; rights = set i; descriptions = descriptions i; processes = al.processes i; made = al.made i; largest = al.largest i }
+    λ i. record { root = al.root i; inodes = kept i; rights = set i; descriptions = descriptions i; processes = al.processes i; made = al.made i; bounds = al.bounds i }
 
 pub tidied_alike : (k : Kernel) → WellFormed k → Alike k (tidy k)
 unfolding tidy
 tidied_alike k well = record {
   root = refl;
-  largest = refl;
+  bounds = refl;
   processes = refl;
   made = refl;
   held = held_stays k;
@@ -87,7 +87,7 @@ set_alike : (a b : Kernel) (n : ℕ) (new other : Inode) → Alike a b → ((m :
 unfolding holders
 set_alike a b n new other al named here there set = record {
   root = al.root;
-  largest = al.largest;
+  bounds = al.bounds;
   processes = al.processes;
   made = al.made;
   held = al.held;
@@ -215,7 +215,7 @@ offset_alike : (a b : Kernel) (d place : ℕ) (it is : Description) → Alike a 
 unfolding links holders
 offset_alike a b d place it is al e f = record {
   root = al.root;
-  largest = al.largest;
+  bounds = al.bounds;
   processes = al.processes;
   made = al.made;
   held = λ t h. elim (cases_eq t d) [
@@ -266,7 +266,7 @@ tables_alike : (a b : Kernel) (ds es : FinMap nat_cmp Description) (ps qs : FinM
 unfolding links openings
 tables_alike a b ds es ps qs m n al processes made held opened = record {
   root = al.root;
-  largest = al.largest;
+  bounds = al.bounds;
   processes = processes;
   made = made;
   held = held;
@@ -325,7 +325,7 @@ rights_alike : (a b : Kernel) (n : ℕ) (rights : Rights) → Alike a b → Alik
 unfolding links openings holders
 rights_alike a b n rights al = record {
   root = al.root;
-  largest = al.largest;
+  bounds = al.bounds;
   processes = al.processes;
   made = al.made;
   held = al.held;

@@ -7,7 +7,7 @@ use Rattle.model.specs.State.{Name, Kind, A_file, A_directory, A_pipe, Kernel, I
 use Rattle.ids.specs.Fixed.{fixed_kind}
 use Rattle.model.specs.Moments.{is_alive}
 use Rattle.model.specs.Changes.{Edit, Made, number, Mode, Make_directory, Make_file, Make_fixed, Name_file, Unname_file, Unname_directory, Move, Put_bytes, Cut, Take, Append, Set_offset, Set_rights, Open_inode, Make_pipe, Share_slot, Clear_slot, New_process, End_process, applied, all_applied, process_of, set_inode, set_name, clear_name, set_rights, set_process, set_description, at_offset, at_start, with_slot, without_slot, open_at, to_read, to_write, sized, written}
-use Rattle.call_laws.specs.WellFormed.{WellFormed, CanBeNamed, CanBeOpened, descriptor_limit}
+use Rattle.call_laws.specs.WellFormed.{WellFormed, CanBeNamed, CanBeOpened, most_descriptors}
 use Rattle.call_laws.specs.Fits.{Fits, FitsAll, table_of, IsAlive, CanPipe}
 use Rattle.model.proofs.Laws.{get_same, get_other}
 use Rattle.call_laws.proofs.Maps.{not_none, from_insert, from_remove, removed_same, removed_other, empty_gives, none_by_keys}
@@ -30,7 +30,7 @@ KindsStay k after = (t : ℕ) (what : Kind) → kind_of k t ≡ Some what → ki
 -- what must be seen of slots, descriptions and processes
 pub record TablesAreWell (k : Kernel) : Type 0 where
   pub slots : (pid f d : ℕ) → get (table_of k pid) f ≡ Some d → (it : Description) × (get k.descriptions d ≡ Some it)
-  pub low : (pid f d : ℕ) → get (table_of k pid) f ≡ Some d → f < descriptor_limit
+  pub low : (pid f d : ℕ) → get (table_of k pid) f ≡ Some d → f < most_descriptors k
   pub descriptions : (d : ℕ) (it : Description) → get k.descriptions d ≡ Some it → CanBeOpened (kind_of k it.inode)
   pub counted : (pid : ℕ) → is_alive k pid ≡ true → pid ≤ k.made
 
@@ -85,7 +85,7 @@ slot_after k q x pid g e is =
 
 -- a slot that is right: it gives a description, and its descriptor is low
 abbrev IsSlot : Kernel → ℕ → ℕ → Type 0
-IsSlot k g e = ((it : Description) × (get k.descriptions e ≡ Some it)) × (g < descriptor_limit)
+IsSlot k g e = ((it : Description) × (get k.descriptions e ≡ Some it)) × (g < most_descriptors k)
 
 -- a new table for a process, each slot of it right
 process_tables : (k : Kernel) (q : ℕ) (x : Process) (made : ℕ) → ((g e : ℕ) → get x.table g ≡ Some e → IsSlot k g e) → q ≤ made → k.made ≤ made → TablesAreWell k
@@ -127,12 +127,12 @@ described_tables k d it can tables = record {
   counted = tables.counted;
 }
 
-open_tables : (k : Kernel) (d n : ℕ) (how : Mode) (pid f : ℕ) → CanBeOpened (kind_of k n) → IsAlive k pid → f < descriptor_limit → TablesAreWell k → TablesAreWell (open_at d n how pid f k)
+open_tables : (k : Kernel) (d n : ℕ) (how : Mode) (pid f : ℕ) → CanBeOpened (kind_of k n) → IsAlive k pid → f < most_descriptors k → TablesAreWell k → TablesAreWell (open_at d n how pid f k)
 open_tables k d n how pid f can alive low tables =
     let mid : TablesAreWell (set_description d (at_start n how) k) = described_tables k d (at_start n how) can tables in
     process_tables (set_description d (at_start n how) k) pid (with_slot f d (process_of k pid)) k.made
     (λ g e is. elim (from_insert (table_of k pid) f g d e is) [
-      | inl here ↦ ((at_start n how, ap (get (insert k.descriptions d (at_start n how))) (sym here.1) ∙ get_same k.descriptions d (at_start n how)), subst (λ g. g < descriptor_limit) (sym here.0) low)
+      | inl here ↦ ((at_start n how, ap (get (insert k.descriptions d (at_start n how))) (sym here.1) ∙ get_same k.descriptions d (at_start n how)), subst (λ g. g < most_descriptors k) (sym here.0) low)
       | inr there ↦ (mid.slots pid g e there.1, tables.low pid g e there.1)
     ])
     (tables.counted pid (some_alive k pid alive)) (omega arith) mid
@@ -273,7 +273,7 @@ well_stays chosen k (Make_pipe i q f g) well can =
     (pipe_tables chosen k _ _ _ q f g can (tables_of k well))
 well_stays chosen k (Share_slot q f d pipes) well can = well_over k _ _ k.made well (process_tables k q (with_slot f d (process_of k q)) k.made
     (λ g e is. elim (from_insert (table_of k q) f g d e is) [
-      | inl here ↦ (subst (λ e. (it : Description) × (get k.descriptions e ≡ Some it)) here.1 (well.slots q can.from d can.held), subst (λ g. g < descriptor_limit) (sym here.0) can.low)
+      | inl here ↦ (subst (λ e. (it : Description) × (get k.descriptions e ≡ Some it)) here.1 (well.slots q can.from d can.held), subst (λ g. g < most_descriptors k) (sym here.0) can.low)
       | inr there ↦ (well.slots q g e there.1, well.low q g e there.1)
     ])
     (well.counted q (some_alive k q can.alive)) (omega arith) (tables_of k well))

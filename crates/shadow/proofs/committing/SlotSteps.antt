@@ -9,6 +9,7 @@ use Rattle.model.specs.FiniteMap.{FinMap, contains_key, entries, get, insert, le
 use Rattle.model.specs.State.{Kernel, Process}
 use Rattle.model.specs.Changes.{holders, or_new, set_process, with_slot, without_slot}
 use Rattle.model.proofs.Laws.{all_entries, get_other, get_same, removed_other, removed_same}
+use Rattle.call_laws.specs.WellFormed.{WellFormed, most_descriptors}
 use Rattle.call_laws.proofs.Laws.{not_none, some_same}
 use Rattle.freeing_laws.specs.Counts.{listed, times}
 use Rattle.freeing_laws.proofs.Left.{left_is_tidy_lem}
@@ -57,6 +58,12 @@ process_there ps q p is = elim (cases_lt q (suc (length ps.list))) [
   | inl low ↦ low
   | inr high ↦ absurd (not_none p (sym is ∙ no_process ps q (inr (omega (arith, high)))))
 ]
+
+-- in a well-formed state the descriptors are below the limit
+pub well_low : (ps : Processes) (s : Numbers) → WellFormed (state_of ps s) → AreLow ps
+well_low ps s well = λ pid f d is.
+    let low : f < most_descriptors (state_of ps s) = well.low pid f d is in
+    omega arith
 
 -- there are few holders of a description
 pub few_holders : (ps : Processes) (s : Numbers) (d : ℕ) → AreLow ps → length ps.list < 2 ^ 64 → holders (state_of ps s) d + 1 < 2 ^ 128
@@ -170,7 +177,7 @@ module _ (ps : Processes) (pid f : ℕ) (given former : Option ℕ) (new : Proce
       descriptions = less.descriptions ∙ more.descriptions;
       reserves = λ n. less.reserves n ∙ more.reserves n;
       count = same_count ps pid (Some new) some low;
-      largest = refl;
+      bounds = refl;
       low = low_now;
       counted = counted_now;
     };

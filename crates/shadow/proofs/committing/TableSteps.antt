@@ -28,7 +28,7 @@ stays_still ps s = record {
   descriptions = refl;
   reserves = λ n. refl;
   count = refl;
-  largest = refl;
+  bounds = refl;
   low = λ h. h;
   counted = λ low h. h;
 }
@@ -39,7 +39,7 @@ stays_on ps qs rs s t u first later = record {
   descriptions = later.descriptions ∙ first.descriptions;
   reserves = λ n. later.reserves n ∙ first.reserves n;
   count = later.count ∙ first.count;
-  largest = later.largest ∙ first.largest;
+  bounds = later.bounds ∙ first.bounds;
   low = λ h. later.low (first.low h);
   counted = λ low h. later.counted (first.low low) (first.counted low h);
 }

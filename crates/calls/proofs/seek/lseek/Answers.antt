@@ -15,4 +15,4 @@ pub returns-in_err-start : goal.returns-in_err-start
 returns-in_err-start g c = goes _ (c.in_ok-it.ensures _) (goes _ (c.in_ok-must_not_be_pipe.ensures _ _) (stops _ c.from_residual-in_err-start.ensures.1 c.in_err-start.ensures))
 
 pub returns : goal.returns
-returns g c = goes _ (c.in_ok-it.ensures _) (goes _ (c.in_ok-must_not_be_pipe.ensures _ _) (goes _ c.in_ok-start.ensures (c.sought.ensures (g.L.Look.state c.args.look.now).largest (pos c.in_ok-start.start +ℤ c.args.distance) ((λ i. offset_in (sym c.largest.ensures i) (pos c.in_ok-start.start +ℤ sym (to_z-of_z _ _ c.ranges.distance) i)) ∙ sym c.offset_of.ensures) _ _)))
+returns g c = goes _ (c.in_ok-it.ensures _) (goes _ (c.in_ok-must_not_be_pipe.ensures _ _) (goes _ c.in_ok-start.ensures (c.sought.ensures (g.L.Look.state c.args.look.now).bounds.file_bytes (pos c.in_ok-start.start +ℤ c.args.distance) ((λ i. offset_in (sym c.largest.ensures i) (pos c.in_ok-start.start +ℤ sym (to_z-of_z _ _ c.ranges.distance) i)) ∙ sym c.offset_of.ensures) _ _)))

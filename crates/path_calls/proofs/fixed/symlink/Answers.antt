@@ -15,4 +15,4 @@ unwrap-requires g c = c.new.ensures.exactly.1 (subst (λ (t : List ℕ). (0 < le
 pub returns : goal.returns
 returns g c pid =
     let same = made_of c.new.result c.unwrap.result _ c.unwrap.ensures c.new.ensures.value ∙ c.in_ok-copy.ensures in
-    via (tested_then c.args.target.now _) (goes _ (c.in_ok-must_be_target.ensures.tells _ _) (via (ap (λ t. made (g.L.Look.state c.args.look.now).root c.args.path.now (Link_to t)) (sym same)) c.made.ensures))
+    via (tested_then c.args.target.now _) (goes _ (c.in_ok-must_be_target.ensures.tells _ _) (via (ap (λ t. made (g.L.Look.state c.args.look.now).bounds.path_bytes (g.L.Look.state c.args.look.now).root c.args.path.now (Link_to t)) (sym same)) c.made.ensures))

@@ -2,7 +2,7 @@ use Rattle.std.proofs.Common.{◌≡◌, ◌≤◌, ◌<◌, ◌+◌, ◌*◌, �
 use Rattle.std.proofs.lemmas.List.{get_or_read}
 use Rattle.model.specs.FiniteMap.{empty, get, values}
 use Rattle.model.specs.State.{Kernel}
-use Rattle.model.specs.Changes.{holders, or_new, process_of}
+use Rattle.model.specs.Changes.{holders, process_of}
 use Rattle.freeing_laws.specs.Counts.{times}
 use Rattle.notes.specs.Openings.{AreOnce}
 use Rattle.notes.specs.Patches.{kept_at, reslotted}
@@ -28,12 +28,12 @@ loop-i-preserved c =
     let once : AreOnce es = subst (λ (es : Entries). AreOnce es) c.slots.view_is c.slots.invariant in
     let key : c.index.result.now.0 ≡ key_at es i = ap (λ e. e.0) (get_or_read c.slots.inside.each.items i c.index.result.now here c.index.ensures (0, empty)) ∙ ap (λ (es : Entries). key_at es i) c.slots.view_is in
     let was : c.count.result ≡ open_on d (get k.processes (key_at es i)) = c.count.ensures ∙ ap (λ t. times d (values t)) (c.table-stored.ensures ∙ ap (λ n. (process_of k n).table) key) in
-    let is : c.count-in-loop-i.result ≡ open_on d (reslotted (kept_at es (key_at es i)) (get k.processes (key_at es i))) =
-    c.count-in-loop-i.ensures ∙ ap (λ t. times d (values t))
-    (c.over.ensures (get k.processes c.index.result.now.0) (sym c.table-stored.ensures) ∙ ap (λ n. (or_new (reslotted (kept_at es n) (get k.processes n))).table) key) in
+    let is : c.count_over.result ≡ open_on d (reslotted (kept_at es (key_at es i)) (get k.processes (key_at es i))) =
+    c.count_over.ensures (get k.processes c.index.result.now.0) (sym c.table-stored.ensures)
+    ∙ ap (λ n. open_on d (reslotted (kept_at es n) (get k.processes n))) key in
     let added : c.loop-i.added ≤ i * 18446744073709551616 = c.loop-i.invariant.few in
     let taken : c.loop-i.taken ≤ i * 18446744073709551616 = c.loop-i.invariant.gone in
-    let one : c.count-in-loop-i.result < 18446744073709551616 = c.count-in-loop-i.type_inv in
+    let one : c.count_over.result < 18446744073709551616 = c.count_over.type_inv in
     let former : c.count.result < 18446744073709551616 = c.count.type_inv in
     record {
       turned = subst (λ n. Turned k d (i + 1) es n (c.loop-i.taken + c.count.result)) (ap (λ n. c.loop-i.added + n) (sym is))

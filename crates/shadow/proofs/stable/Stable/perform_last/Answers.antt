@@ -6,6 +6,7 @@ use Rattle.call_laws.specs.Fits.{Fits}
 use Rattle.shadow.specs.Claims.{KeepsMore, claimed_by_one}
 use Rattle.shadow.specs.Stored.{committed_of}
 use Rattle.notes.specs.Steps.{IsLast, new_in}
+use Rattle.notes.proofs.Laws.{ok_so}
 use Rattle.shadow.proofs.shared.SoundnessLemmas.{less_of}
 use Rattle.shadow.proofs.edits.Offsets.{moving_kept, moving_sound, moving_state}
 use Rattle.shadow.proofs.edits.UnusedNumbers.{same_slotting, same_opening}
@@ -50,35 +51,36 @@ returns-in-OpenInode-clause-state c =
     let at : c.index-chosen-index.result ≡ new_in chosen c.in-OpenInode.index =
     get_or_read chosen c.in-OpenInode.index c.index-chosen-index.result low
     c.index-chosen-index.is 0 in
-    c.open_inode.ensures.state
+    ok_so c.open_inode.result (λ h. h
     ∙ ap (λ (k : Kernel). tidy k)
     (same_opening chosen c.in-OpenInode.index c.in-OpenInode.inode c.in-OpenInode.mode
     c.in-OpenInode.process c.in-OpenInode.descriptor c.index-chosen-index.result c.number-inode.result at
     c.number-inode.ensures c.args.self.now.state)
-    ∙ ap (λ (e : Edit). tidy (applied chosen e c.args.self.now.state)) (sym c.in-OpenInode.is)
+    ∙ ap (λ (e : Edit). tidy (applied chosen e c.args.self.now.state)) (sym c.in-OpenInode.is))
+    c.open_inode.ensures.state
 
 pub reslot-requires-clause-fits : goal.reslot-requires-clause-fits
 reslot-requires-clause-fits c = (c.in-ShareSlot.pipes, subst (Fits c.args.chosen.now c.args.self.now.state) c.in-ShareSlot.is c.requires.fits)
 
 pub returns-in-ShareSlot-clause-state : goal.returns-in-ShareSlot-clause-state
 returns-in-ShareSlot-clause-state c =
-    c.reslot.ensures.state c.in-ShareSlot.pipes
+    ok_so c.reslot.result (λ h. h c.in-ShareSlot.pipes
     (subst (Fits c.args.chosen.now c.args.self.now.state) c.in-ShareSlot.is c.requires.fits)
     ∙ ap (λ (k : Kernel). tidy k)
     (same_slotting c.args.chosen.now c.args.self.now.state (Some c.in-ShareSlot.description) c.in-ShareSlot.process c.in-ShareSlot.descriptor
     c.in-ShareSlot.pipes)
     ∙ ap (λ (e : Edit). tidy (applied c.args.chosen.now e c.args.self.now.state))
-    (sym c.in-ShareSlot.is)
+    (sym c.in-ShareSlot.is)) c.reslot.ensures.state
 
 pub reslot-requires-in-ClearSlot-clause-fits : goal.reslot-requires-in-ClearSlot-clause-fits
 reslot-requires-in-ClearSlot-clause-fits c = (c.in-ClearSlot.pipes, subst (Fits c.args.chosen.now c.args.self.now.state) c.in-ClearSlot.is c.requires.fits)
 
 pub returns-in-ClearSlot-clause-state : goal.returns-in-ClearSlot-clause-state
 returns-in-ClearSlot-clause-state c =
-    c.reslot-in-ClearSlot.ensures.state c.in-ClearSlot.pipes
+    ok_so c.reslot-in-ClearSlot.result (λ h. h c.in-ClearSlot.pipes
     (subst (Fits c.args.chosen.now c.args.self.now.state) c.in-ClearSlot.is c.requires.fits)
     ∙ ap (λ (k : Kernel). tidy k)
     (same_slotting c.args.chosen.now c.args.self.now.state None c.in-ClearSlot.process c.in-ClearSlot.descriptor
     c.in-ClearSlot.pipes)
     ∙ ap (λ (e : Edit). tidy (applied c.args.chosen.now e c.args.self.now.state))
-    (sym c.in-ClearSlot.is)
+    (sym c.in-ClearSlot.is)) c.reslot-in-ClearSlot.ensures.state
