@@ -21,6 +21,7 @@ CALLS = [
     "mkdir of 500000 names",
     "mkdir of 1000000 names",
     "rename",
+    "exchange of two names of 1000",
     "unlink",
     "symlink of 1000 names",
     "readlink",
@@ -60,6 +61,8 @@ FILES = [
         "pread 4 KiB anywhere",
         "ftruncate by one byte",
         "truncate by one byte",
+        "lseek to the next data",
+        "fallocate, punch 4 KiB anywhere",
         "ftruncate a gap to no byte",
     )
     for size in (1, 16, 256, 1024)

@@ -415,10 +415,26 @@ int64_t kagzuvis_lseek(kagzuvis *kernel, unsigned process, int fd, int64_t offse
     begin_call(kernel, process, LSEEK);
     put_fd(kernel, fd);
     put_offset(kernel, offset);
-    put_word(kernel, whence == SEEK_SET ? "SET" : whence == SEEK_CUR ? "CUR" : "END");
-    if (whence != SEEK_SET && whence != SEEK_CUR && whence != SEEK_END)
+    put_word(kernel, whence == SEEK_SET ? "SET"
+        : whence == SEEK_CUR ? "CUR"
+        : whence == SEEK_END ? "END"
+        : whence == KAGZUVIS_SEEK_DATA ? "DATA" : "HOLE");
+    if (whence != SEEK_SET && whence != SEEK_CUR && whence != SEEK_END && whence != KAGZUVIS_SEEK_DATA
+        && whence != KAGZUVIS_SEEK_HOLE)
         spoil(kernel, KAGZUVIS_MISUSED);
     return ask_number(kernel, process, LSEEK);
+}
+
+int kagzuvis_fallocate(kagzuvis *kernel, unsigned process, int fd, int64_t offset, int64_t length, enum kagzuvis_space space)
+{
+    begin_call(kernel, process, FALLOCATE);
+    put_fd(kernel, fd);
+    put_offset(kernel, offset);
+    put_offset(kernel, length);
+    put_word(kernel, space == KAGZUVIS_GROW ? "GROW" : space == KAGZUVIS_KEEP ? "KEEP" : "PUNCH");
+    if (space != KAGZUVIS_GROW && space != KAGZUVIS_KEEP && space != KAGZUVIS_PUNCH)
+        spoil(kernel, KAGZUVIS_MISUSED);
+    return ask(kernel, process, FALLOCATE);
 }
 
 int kagzuvis_ftruncate(kagzuvis *kernel, unsigned process, int fd, uint32_t length)
@@ -470,6 +486,11 @@ int kagzuvis_link(kagzuvis *kernel, unsigned process, const char *old_path, cons
 int kagzuvis_unlink(kagzuvis *kernel, unsigned process, const char *path)
 {
     return on_path(kernel, process, UNLINK, path);
+}
+
+int kagzuvis_exchange(kagzuvis *kernel, unsigned process, const char *old_path, const char *new_path)
+{
+    return on_paths(kernel, process, EXCHANGE, old_path, new_path);
 }
 
 int kagzuvis_rename(kagzuvis *kernel, unsigned process, const char *old_path, const char *new_path)

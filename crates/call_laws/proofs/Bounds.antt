@@ -2,7 +2,7 @@
 use Rattle.std.proofs.Common.{◌≡◌, ℕ, List, [], ◌∷◌, Option, Some, None, refl, ◌∙◌}
 use Rattle.model.specs.FiniteMap.{get}
 use Rattle.model.specs.State.{Kernel, Description}
-use Rattle.model.specs.Changes.{Edit, Make_directory, Make_file, Make_fixed, Name_file, Unname_file, Unname_directory, Move, Put_bytes, Cut, Take, Append, Set_offset, Set_rights, Open_inode, Make_pipe, Share_slot, Clear_slot, New_process, End_process, set_offset, applied, all_applied, tidy}
+use Rattle.model.specs.Changes.{Edit, Make_directory, Make_file, Make_fixed, Name_file, Unname_file, Unname_directory, Move, Swap, Put_bytes, Wipe, Cut, Take, Append, Set_offset, Set_rights, Open_inode, Make_pipe, Share_slot, Clear_slot, New_process, End_process, set_offset, applied, all_applied, tidy}
 use Rattle.model.specs.Entries.{Executed}
 use Rattle.model.specs.Steps.{edits}
 use Rattle.model.specs.Moments.{after_one, after_list, loose}
@@ -21,7 +21,9 @@ one_stays chosen (Name_file d x n) k = refl
 one_stays chosen (Unname_file d x n) k = refl
 one_stays chosen (Unname_directory d x n) k = refl
 one_stays chosen (Move d x e y n replaced) k = refl
+one_stays chosen (Swap d x n e y m) k = refl
 one_stays chosen (Put_bytes n place bytes before) k = refl
+one_stays chosen (Wipe n place count) k = refl
 one_stays chosen (Cut n before after) k = refl
 one_stays chosen (Take p count) k = refl
 one_stays chosen (Append p bytes) k = refl

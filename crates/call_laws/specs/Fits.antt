@@ -14,6 +14,7 @@ use Rattle.model.specs.Limits.{capacity}
 use Rattle.model.specs.Moments.{is_in}
 use Rattle.model.specs.Changes.{Made, number, Edit, Make_directory, Make_file, Make_fixed}
 use Rattle.model.specs.Changes.{Name_file, Unname_file, Unname_directory, Move, Put_bytes, Cut, Take, Append}
+use Rattle.model.specs.Changes.{Swap, Wipe}
 use Rattle.model.specs.Changes.{Set_offset, Set_rights, Open_inode, Make_pipe, Share_slot, Clear_slot}
 use Rattle.model.specs.Changes.{New_process, End_process, marks, applied, process_of}
 use Rattle.model.specs.Changes.{Replaced, Over_nothing, Over_file, Over_directory}
@@ -55,6 +56,16 @@ pub record CanMove (k : Kernel) (d : ℕ) (x : Name) (e : ℕ) (y : Name) (n : �
   pub gives : get (names_of k e) y ≡ old
   pub replaces : CanBeReplaced k n old replaced
   pub no_ring : (path : List Name) → Leads k n path e → ⊥
+
+-- two names of different objects, neither of which leads to the directory of the other's name
+pub record CanSwap (k : Kernel) (d : ℕ) (x : Name) (n e : ℕ) (y : Name) (m : ℕ) : Type 0 where
+  pub what : Kind
+  pub other : Kind
+  pub first : Gives k d x n what
+  pub second : Gives k e y m other
+  pub apart : n ≢ m
+  pub no_ring : (path : List Name) → Leads k n path e → ⊥
+  pub no_ring_back : (path : List Name) → Leads k m path d → ⊥
 
 abbrev pub table_of : Kernel → ℕ → FinMap nat_cmp ℕ
 table_of k pid = (process_of k pid).table
@@ -147,8 +158,11 @@ Fits chosen k (Name_file d x n) = IsFree k d x × CanBeLinked (kind_of k n) × (
 Fits chosen k (Unname_file d x n) = GivesLinked k d x n
 Fits chosen k (Unname_directory d x n) = Gives k d x n A_directory × (keys (names_of k n) ≡ [])
 Fits chosen k (Move d x e y n replaced) = CanMove k d x e y n replaced
+Fits chosen k (Swap d x n e y m) = CanSwap k d x n e y m
 Fits chosen k (Put_bytes n place bytes before) =
     (kind_of k n ≡ Some A_file) × (length (file_of k n) ≡ before)
+Fits chosen k (Wipe n place count) =
+    (kind_of k n ≡ Some A_file) × (place + count ≤ length (file_of k n))
 Fits chosen k (Cut n before after) = (kind_of k n ≡ Some A_file) × (length (file_of k n) ≡ before)
 Fits chosen k (Take p count) = (kind_of k p ≡ Some A_pipe) × (count ≤ length (pipe_of k p))
 Fits chosen k (Append p bytes) =

@@ -1,18 +1,19 @@
 -- States stay within the limits: each edit that a plan gives keeps them, so each step of a plain run does.
-use Rattle.std.proofs.Common.{◌≡◌, ℕ, suc, ◌+◌, ◌-◌, ◌<◌, ◌≤◌, ℤ, pos, negsuc, ◌+ℤ◌, Bool, true, false, cond, not, ◌&&◌, ◌||◌, List, [], ◌∷◌, ◌++◌, length, take, drop, min, max, if◌then◌else◌, Option, Some, None, Result, Ok, Err, IfOk, refl, sym, ap, subst, ◌∙◌, arith, inl, inr, ◌==◌, nat_lt, nat_le, nat_cmp, length-take, length-drop, length-append, ltb-false, leb-false}
+use Rattle.std.proofs.Common.{◌≡◌, ℕ, suc, ◌+◌, ◌-◌, ◌<◌, ◌≤◌, ℤ, pos, negsuc, ◌+ℤ◌, Bool, true, false, cond, not, ◌&&◌, ◌||◌, List, [], ◌∷◌, ◌++◌, length, take, drop, min, max, replicate, if◌then◌else◌, Option, Some, None, Result, Ok, Err, IfOk, refl, sym, ap, subst, ◌∙◌, arith, inl, inr, ◌==◌, nat_lt, nat_le, nat_cmp, length-take, length-drop, length-append, ltb-false, ltb-true, leb-false}
 use Rattle.std.specs.Prelude.{⊤}
 use Rattle.std.specs.List.{list_any}
 use Rattle.std.proofs.lemmas.Bool.{cases_eq}
 use Rattle.model.specs.FiniteMap.{FinMap, get, empty, insert, remove, get-empty}
 use Rattle.model.specs.State.{Bounds, A_file, A_directory, A_pipe, A_link, A_fifo, A_socket, name_cmp, Kernel, names_of, Inode, File, Directory, Pipe, Fixed, Description, file_of, pipe_of, file_of_inode, pipe_of_inode, target_of_inode, offset_in, offset_of}
-use Rattle.model.specs.Plan.{Errno, Plan, Give, given, ◌>>=◌, answer, capacity, Fit, Count_ends, List_names, or_refuse, ENOENT, ENOTDIR, ENOTEMPTY, EEXIST, EBUSY, EPERM, EINVAL, EISDIR, EBADF, EAGAIN, EPIPE, EFBIG, ESPIPE, ELOOP, ENXIO, ENAMETOOLONG}
+use Rattle.std.proofs.lemmas.List.{length-replicate}
+use Rattle.model.specs.Plan.{Errno, Plan, Give, given, ◌>>=◌, answer, capacity, Measure, Fit, Count_ends, List_names, or_refuse, ENOENT, ENOTDIR, ENOTEMPTY, EEXIST, EBUSY, EPERM, EINVAL, EISDIR, EBADF, EAGAIN, EPIPE, EFBIG, ESPIPE, ELOOP, ENXIO, ENAMETOOLONG}
 use Rattle.model.specs.Paths.{is_empty, is_below}
 use Rattle.model.specs.Walks.{Place, parsed, walk, is_directory, is_link, Last, last_of}
-use Rattle.model.specs.Changes.{Mode, There, Made, Edit, Make_directory, Make_file, Make_fixed, Name_file, Unname_file, Unname_directory, Move, Put_bytes, Cut, Take, Append, Set_offset, Set_rights, Open_inode, Make_pipe, Share_slot, Clear_slot, New_process, End_process, number, applied, all_applied, set_inode, clear_name, set_description, set_offset, at_offset, at_start, open_at, to_read, to_write, written, sized, is_held, tidy}
+use Rattle.model.specs.Changes.{Mode, There, Made, Edit, Make_directory, Make_file, Make_fixed, Name_file, Unname_file, Unname_directory, Swap, Wipe, Move, Put_bytes, Cut, Take, Append, Set_offset, Set_rights, Open_inode, Make_pipe, Share_slot, Clear_slot, New_process, End_process, number, applied, all_applied, set_inode, set_name, clear_name, set_description, set_offset, at_offset, at_start, open_at, to_read, to_write, written, sized, is_held, tidy}
 use Rattle.ids.specs.Fixed.{fixed_target, special_object}
 use Rattle.ids.specs.Flags.{is_reading, is_writing, is_creating, is_exclusive, is_truncating}
-use Rattle.model.specs.Calls.{OpenFlags, Call, Open, Close, Read, Pread, Write, Pwrite, Lseek, Ftruncate, Truncate, Stat, Fstat, Link, Unlink, Rename, Mkdir, Rmdir, List_directory, Symlink, Readlink, Lstat, Mknod, Chmod, Chown, Fchmod, Fchown, Dup, Dup2, Open_pipe, Fork, Exit, Answer, Done, Descriptor, Count, New_place, Bytes, Slot, Special, Special_fifo, Special_socket, Own, own}
-use Rattle.model.specs.Plans.{Change, changed, unchanged, absent, status, is_special, slot, is_pipe, read_pipe, read_some, place_to_write, write_some, most_moved, room, offset_named, read_from, write_from, base, sought, replaced_by_name, moved, free, first_of_free, duplicated, piped, opened, mode, cut_to, open_limit}
+use Rattle.model.specs.Calls.{OpenFlags, Call, Open, Close, Read, Pread, Write, Pwrite, Lseek, Ftruncate, Truncate, Stat, Fstat, Link, Unlink, Rename, Exchange, Fallocate, Space, Grow, Keep, Punch, Mkdir, Rmdir, List_directory, Symlink, Readlink, Lstat, Mknod, Chmod, Chown, Fchmod, Fchown, Dup, Dup2, Open_pipe, Fork, Exit, Answer, Done, Descriptor, Count, New_place, Bytes, Slot, Special, Special_fifo, Special_socket, Own, own}
+use Rattle.model.specs.Plans.{Change, changed, unchanged, absent, status, is_special, slot, is_pipe, read_pipe, read_some, place_to_write, write_some, most_moved, room, offset_named, read_from, write_from, length_named, aimed, spaced, sought, replaced_by_name, moved, free, first_of_free, duplicated, piped, opened, mode, cut_to, open_limit}
 use Rattle.model.specs.Steps.{outcome, edits, edits_of, Step, Item, Run}
 use Rattle.model.specs.Moments.{Setup, start, after}
 use Rattle.call_laws.proofs.Laws.{the_bounds_stay, get_retained, reached, get_tidy, write_pipe, put_at, after_bind, whatever, allowed, either_given}
@@ -59,6 +60,7 @@ open_within k d n mode pid f w = let v = describe_within k d (at_start n mode) (
 abbrev Within : Kernel → Edit → Type 0
 Within k (Make_fixed d x fixed i) = length (fixed_target fixed) ≤ target_limit
 Within k (Put_bytes n place bytes before) = place + length bytes ≤ k.bounds.file_bytes
+Within k (Wipe n place count) = place + count ≤ length (file_of k n)
 Within k (Cut n before after) = after ≤ k.bounds.file_bytes
 Within k (Append p bytes) = length (pipe_of k p) + length bytes ≤ capacity
 Within k (Set_offset d place) = place ≤ k.bounds.file_bytes
@@ -91,11 +93,18 @@ edit_within chosen k (Name_file d x n) w h = names_within k d (insert (names_of 
 edit_within chosen k (Unname_file d x n) w h = names_within k d (remove (names_of k d) x) w
 edit_within chosen k (Unname_directory d x n) w h = names_within k d (remove (names_of k d) x) w
 edit_within chosen k (Move d x e y n replaced) w h = names_within (clear_name d x k) e (insert (names_of (clear_name d x k) e) y n) (names_within k d (remove (names_of k d) x) w)
+edit_within chosen k (Swap d x n e y m) w h = names_within (set_name d x m k) e (insert (names_of (set_name d x m k) e) y n) (names_within k d (insert (names_of k d) x m) w)
 edit_within chosen k (Put_bytes n place bytes before) w h =
     let long : length (written (file_of k n) place bytes) ≡ max (length (file_of k n)) (place + length bytes) = length-written (file_of k n) place bytes in
     let old : length (file_of k n) ≤ k.bounds.file_bytes = w.files n in
     let new : place + length bytes ≤ k.bounds.file_bytes = h in
     set_within k n (File (written (file_of k n) place bytes)) (omega arith) (omega arith) (omega arith) w
+edit_within chosen k (Wipe n place count) w h =
+    let long : length (written (file_of k n) place (replicate count 0)) ≡ max (length (file_of k n)) (place + length (replicate {A = ℕ} count 0)) = length-written (file_of k n) place (replicate count 0) in
+    let many : length (replicate {A = ℕ} count 0) ≡ count = length-replicate {A = ℕ} count 0 in
+    let old : length (file_of k n) ≤ k.bounds.file_bytes = w.files n in
+    let within : place + count ≤ length (file_of k n) = h in
+    set_within k n (File (written (file_of k n) place (replicate count 0))) (omega arith) (omega arith) (omega arith) w
 edit_within chosen k (Cut n before after) w h =
     let long : length (sized after (file_of k n)) ≡ after = length-sized after (file_of k n) in
     let low : after ≤ k.bounds.file_bytes = h in
@@ -252,6 +261,19 @@ module _ (k : Kernel) (w : IsWithinLimits k) (chosen : List ℕ) where
   sought_within s (pos place) = allowed k Fine (nat_lt k.bounds.file_bytes place) EINVAL (changed (New_place place) (Set_offset s.description place ∷ [])) (λ low. (ltb-false k.bounds.file_bytes place low, tt))
   sought_within s (negsuc place) = tt
 
+  spaced_within : (n at count : ℕ) (space : Space) → at + count ≤ k.bounds.file_bytes → IfOk (given k (spaced n at count space)) Fine
+  spaced_within n at count Grow low = by_test (nat_lt (answer k (Measure n)) (at + count))
+    where
+      by_test : (b : Bool) → Fine (record { reply = Done; edits = if b then Cut n (answer k (Measure n)) (at + count) ∷ [] else [] })
+      by_test true = (low, tt)
+      by_test false = tt
+  spaced_within n at count Keep low = tt
+  spaced_within n at count Punch low = by_test (nat_lt at (answer k (Measure n))) refl
+    where
+      by_test : (b : Bool) → nat_lt at (answer k (Measure n)) ≡ b → Fine (record { reply = Done; edits = if b then Wipe n at (min count (answer k (Measure n) - at)) ∷ [] else [] })
+      by_test true e = (let below : at < length (file_of k n) = ltb-true at (length (file_of k n)) e in omega arith, tt)
+      by_test false e = tt
+
   -- a move, whatever it replaces
   moved_within : (from : Last) (what : Place) (to : Last) (o : Option Place) → IfOk (given k (moved from what to o)) Fine
   moved_within from what to None = (tt, tt)
@@ -310,7 +332,13 @@ module _ (k : Kernel) (w : IsWithinLimits k) (chosen : List ℕ) where
       either_given k Fine (is_empty bytes) (unchanged (Count 0)) (write_from k.bounds.file_bytes s.inode at bytes) (λ _. tt) (λ _. write_from_within s.inode at bytes)))))
   call_within pid (Lseek f move whence) = goes_on (slot (own k pid (Lseek f move whence)) f) _ (λ s.
       allowed k Fine (is_pipe s.kind) ESPIPE _ (λ _.
-      goes_on (base s whence) _ (λ place. sought_within s (pos place +ℤ move))))
+      goes_on (aimed s move whence) _ (λ sum. sought_within s sum)))
+  call_within pid (Fallocate f offset len space) = goes_on (slot (own k pid (Fallocate f offset len space)) f) _ (λ s.
+      goes_on (or_refuse EINVAL (offset_named offset)) _ (λ at.
+      goes_on (or_refuse EINVAL (length_named len)) _ (λ count.
+      allowed k Fine (not s.writing) EBADF _ (λ _.
+      allowed k Fine (is_pipe s.kind) ESPIPE _ (λ _.
+      allowed k Fine (nat_lt k.bounds.file_bytes (at + count)) EFBIG _ (λ low. spaced_within s.inode at count space (ltb-false k.bounds.file_bytes (at + count) low)))))))
   call_within pid (Ftruncate f len) = goes_on (slot (own k pid (Ftruncate f len)) f) _ (λ s.
       allowed k Fine (not s.writing) EBADF _ (λ _.
       allowed k Fine (is_pipe s.kind) EINVAL _ (λ _.
@@ -343,6 +371,17 @@ module _ (k : Kernel) (w : IsWithinLimits k) (chosen : List ℕ) where
       goes_on (or_refuse ENOENT at.found) _ (λ what.
       allowed k Fine (is_directory what && is_below from to) EINVAL _ (λ _.
       goes_on (last_of k.root EBUSY to) _ (λ onto. moved_within at what onto onto.found)))))))
+  call_within pid (Exchange old path) =
+      goes_on (parsed k.bounds.path_bytes old) _ (λ from.
+      goes_on (parsed k.bounds.path_bytes path) _ (λ to.
+      allowed k Fine (is_empty from || is_empty to) EBUSY _ (λ _.
+      goes_on (last_of k.root EBUSY from) _ (λ at.
+      goes_on (last_of k.root EBUSY to) _ (λ onto.
+      goes_on (or_refuse ENOENT at.found) _ (λ what.
+      goes_on (or_refuse ENOENT onto.found) _ (λ other.
+      allowed k Fine (is_directory what && is_below from to) EINVAL _ (λ _.
+      allowed k Fine (is_directory other && is_below to from) EINVAL _ (λ _.
+      either_given k Fine (what.0 == other.0) (unchanged Done) _ (λ _. tt) (λ _. (tt, tt)))))))))))
   call_within pid (Mkdir path) =
       goes_on (parsed k.bounds.path_bytes path) _ (λ names.
       goes_on (last_of k.root EEXIST names) _ (λ at. absent_within at.found _ (tt, tt)))

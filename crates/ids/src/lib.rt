@@ -22,7 +22,7 @@ mod target;
 
 pub use aspect::{Aspect, Cause, Touch, Why};
 pub use bytes::{Bytes, Name, NameList};
-pub use call::{Call, Op, Whence};
+pub use call::{Call, Op, Space, Whence};
 pub use edit::{Edit, Mode, Replaced, Slot, Which};
 pub use entry::{Entry, ListMode, Rank};
 pub use errno::{Errno, Refusal};

@@ -9,7 +9,7 @@ use Rattle.kernel.proofs.Words.{IsDoomedBy, Doomed, effect, made_by, AreNew, wit
 use Rattle.kernel.proofs.Words.{calling, limit_of, setup_of, moment, Fields, Dooms, CanEnter, IsIn, Moves, part_at, part_of, shown_by, changes_of, doomed_by, is_no_entry, is_some}
 use Rattle.kernel.proofs.Words.{Edit, FitsAll, is_alive, sum_by, news, distinct, with_touches, with_touches-append, Make_directory}
 use Rattle.kernel.proofs.Words.{Unname_directory, Touch, touches, counted, counting, all_done, CanEdit, Committed, IsPlan, IsPlanWithoutTouches, Plans, Prepares, Part, Live}
-use Rattle.model.specs.Changes.{Make_file, Make_fixed, Name_file, Unname_file, Move, Put_bytes, Cut, Open_inode, Set_offset, Set_rights, Share_slot, Clear_slot, Make_pipe, Take, Append, New_process, End_process}
+use Rattle.model.specs.Changes.{Make_file, Make_fixed, Name_file, Unname_file, Swap, Wipe, Move, Put_bytes, Cut, Open_inode, Set_offset, Set_rights, Share_slot, Clear_slot, Make_pipe, Take, Append, New_process, End_process}
 use Rattle.call_laws.specs.Fits.{Fits}
 use Rattle.shadow.specs.Looks.{DirectoriesAreKept}
 use Rattle.notes.specs.Steps.{IsOne, IsLast}
@@ -47,7 +47,9 @@ first_parents v kept chosen (Name_file d x n) fit is = (kept d fit.0.parent.dire
 first_parents v kept chosen (Unname_file d x n) fit is = tt
 first_parents v kept chosen (Unname_directory d x n) fit is = tt
 first_parents v kept chosen (Move d x e y n replaced) fit is = (kept e fit.onto.directory, tt)
+first_parents v kept chosen (Swap d x n e y m) fit is = (kept d fit.first.parent.directory, (kept e fit.second.parent.directory, tt))
 first_parents v kept chosen (Put_bytes n place bytes before) fit is = tt
+first_parents v kept chosen (Wipe n place count) fit is = tt
 first_parents v kept chosen (Cut n before later) fit is = tt
 first_parents v kept chosen (Open_inode i inode mode pid f) fit is = tt
 first_parents v kept chosen (Set_offset d place) fit is = tt

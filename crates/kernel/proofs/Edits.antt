@@ -12,11 +12,11 @@ use Rattle.model.specs.Limits.{largest_file}
 use Rattle.model.specs.Plan.{Errno, Plan, Give, answer as answer_to, given, ◌>>=◌, ◌>>◌, ENOENT, ENOTDIR, ENOTEMPTY, EEXIST, EBUSY, EISDIR, EINVAL, EBADF, EFBIG, ELOOP, ENAMETOOLONG, ENXIO, EPERM, ESPIPE, EPIPE, EAGAIN, List_names, refuse_if, or_refuse}
 use Rattle.model.specs.Entries.{is_inside}
 use Rattle.kernel.specs.States.{CanChange}
-use Rattle.model.specs.Calls.{Call, Dup, Dup2, Open, Close, Read, Pread, Write, Pwrite, Lseek, Ftruncate, Truncate, Stat, Fstat, Link, Unlink, Rename, Mkdir, Rmdir, List_directory, Symlink, Readlink, Lstat, Mknod, Chmod, Chown, Fchmod, Fchown, Open_pipe, Fork, Exit, Child, OpenFlags, Own, Slot, slot_of, own}
+use Rattle.model.specs.Calls.{Call, Dup, Dup2, Open, Close, Read, Pread, Write, Pwrite, Lseek, Ftruncate, Truncate, Stat, Fstat, Link, Unlink, Rename, Exchange, Fallocate, Space, Grow, Keep, Punch, Mkdir, Rmdir, List_directory, Symlink, Readlink, Lstat, Mknod, Chmod, Chown, Fchmod, Fchown, Open_pipe, Fork, Exit, Child, OpenFlags, Own, Slot, slot_of, own}
 use Rattle.model.specs.Changes.{process_of, There, New_process}
 use Rattle.model.specs.Paths.{is_empty, is_below}
 use Rattle.model.specs.Walks.{Place, Last, parsed, walk, last_of, is_directory, is_link}
-use Rattle.model.specs.Plans.{Change, duplicated, plan, status as told_status, absent, slot, free, free_from, first_of_free, is_pipe, is_special, opened, cut_to, read_some, write_some, offset_named, write_from, read_pipe, piped, pipes_in, whole_write, most_processes, place_to_write, base, sought, moved, replaced_by_name, room, most_moved, descriptor_limit, target_limit, open_limit}
+use Rattle.model.specs.Plans.{Change, duplicated, plan, status as told_status, absent, slot, free, free_from, first_of_free, is_pipe, is_special, opened, cut_to, read_some, write_some, offset_named, write_from, read_pipe, piped, pipes_in, whole_write, most_processes, place_to_write, length_named, aimed, spaced, swapped, sought, moved, replaced_by_name, room, most_moved, descriptor_limit, target_limit, open_limit}
 use Rattle.model.specs.Steps.{edits, edits_of, reply, reply_of}
 use Rattle.ids.specs.Flags.{is_reading, is_writing, is_creating, is_exclusive, is_truncating}
 use Rattle.model.proofs.Laws.{all_entries}
@@ -140,6 +140,19 @@ write_edits k largest low it bytes = either_given k Edits (is_pipe it.kind) _ _ 
 put_edits : (k : Kernel) (largest : ℕ) → largest ≤ largest_file → (n offset : ℕ) (bytes : List ℕ) → IfOk (given k (write_from largest n offset bytes)) Edits
 put_edits k largest low n offset bytes = allowed k Edits (nat_le largest offset) EFBIG _ (λ below. inl (room_ends largest offset bytes low (not_above largest offset below)))
 
+space_edits : (k : Kernel) (n at count : ℕ) (space : Space) → at + count ≤ largest_file → IfOk (given k (spaced n at count space)) Edits
+space_edits k n at count Grow low = by_test (nat_lt (answer_to k (Rattle.model.specs.Plan.Measure n)) (at + count))
+  where
+    by_test : (b : Bool) → CanEdit (if b then Rattle.model.specs.Changes.Cut n (answer_to k (Rattle.model.specs.Plan.Measure n)) (at + count) ∷ [] else [])
+    by_test true = inl low
+    by_test false = tt
+space_edits k n at count Keep low = tt
+space_edits k n at count Punch low = by_test (nat_lt at (answer_to k (Rattle.model.specs.Plan.Measure n)))
+  where
+    by_test : (b : Bool) → CanEdit (if b then Rattle.model.specs.Changes.Wipe n at (min count (answer_to k (Rattle.model.specs.Plan.Measure n) - at)) ∷ [] else [])
+    by_test true = inl (omega arith)
+    by_test false = tt
+
 seek_edits : (k : Kernel) (largest : ℕ) (it : Slot) (place : ℤ) → IfOk (given k (sought largest it place)) Edits
 seek_edits k largest it (pos place) = unless k (nat_lt largest place) EINVAL _ (inr tt)
 seek_edits k largest it (negsuc place) = tt
@@ -167,7 +180,9 @@ module _ (k : Kernel) (pid : ℕ) (well : WellFormed k) (low : k.bounds.file_byt
   planned (Pread f count offset) h = on k pid well (Pread f count offset) f _ (λ it opened. unless k (not it.reading) EBADF _ (unless k (is_pipe it.kind) ESPIPE _ (after k (or_refuse EINVAL (offset_named offset)) _ (λ at. either_given k Edits (count == 0) _ _ (λ _. tt) (λ _. tt)))))
   planned (Write f bytes) h = on k pid well (Write f bytes) f _ (λ it opened. unless k (not it.writing) EBADF _ (either_given k Edits (is_empty bytes) _ _ (λ _. tt) (λ _. write_edits k k.bounds.file_bytes low it bytes)))
   planned (Pwrite f bytes offset) h = on k pid well (Pwrite f bytes offset) f _ (λ it opened. unless k (not it.writing) EBADF _ (unless k (is_pipe it.kind) ESPIPE _ (after k (or_refuse EINVAL (offset_named offset)) _ (λ at. either_given k Edits (is_empty bytes) _ _ (λ _. tt) (λ _. put_edits k k.bounds.file_bytes low it.inode at bytes)))))
-  planned (Lseek f move whence) h = on k pid well (Lseek f move whence) f _ (λ it opened. unless k (is_pipe it.kind) ESPIPE _ (after k (base it whence) _ (λ place. seek_edits k k.bounds.file_bytes it (pos place +ℤ move))))
+  planned (Lseek f move whence) h = on k pid well (Lseek f move whence) f _ (λ it opened. unless k (is_pipe it.kind) ESPIPE _ (after k (aimed it move whence) _ (λ sum. seek_edits k k.bounds.file_bytes it sum)))
+  planned (Fallocate f offset len space) h = on k pid well (Fallocate f offset len space) f _ (λ it opened. after k (or_refuse EINVAL (offset_named offset)) _ (λ at. after k (or_refuse EINVAL (length_named len)) _ (λ count.
+      unless k (not it.writing) EBADF _ (unless k (is_pipe it.kind) ESPIPE _ (allowed k Edits (nat_lt k.bounds.file_bytes (at + count)) EFBIG _ (λ fits. space_edits k it.inode at count space (let within : at + count ≤ k.bounds.file_bytes = not_below k.bounds.file_bytes (at + count) fits in omega arith)))))))
   planned (Ftruncate f len) h = on k pid well (Ftruncate f len) f _ (λ it opened. unless k (not it.writing) EBADF _ (unless k (is_pipe it.kind) EINVAL _ (allowed k Edits (nat_lt k.bounds.file_bytes len) EFBIG _ (λ fits. inl (let within : len ≤ k.bounds.file_bytes = not_below k.bounds.file_bytes len fits in omega arith)))))
   planned (Truncate path len) h = after k (parsed k.bounds.path_bytes path) _ (λ names. after k (walk (k.root, Some A_directory) names) _ (λ place. unless k (is_directory place) EISDIR _ (unless k (is_link place) ELOOP _ (unless k (is_special place) EINVAL _ (
       allowed k Edits (nat_lt k.bounds.file_bytes len) EFBIG _ (λ fits. inl (let within : len ≤ k.bounds.file_bytes = not_below k.bounds.file_bytes len fits in omega arith)))))))
@@ -182,6 +197,10 @@ module _ (k : Kernel) (pid : ℕ) (well : WellFormed k) (low : k.bounds.file_byt
       after k (parsed k.bounds.path_bytes old) _ (λ from. after k (parsed k.bounds.path_bytes path) _ (λ to. unless k (is_empty from || is_empty to) EBUSY _ (
       after k (last_of k.root EBUSY from) _ (λ at. after k (or_refuse ENOENT at.found) _ (λ what. unless k (is_directory what && is_below from to) EINVAL _ (
       after k (last_of k.root EBUSY to) _ (λ onto. move_edits k at what onto onto.found)))))))
+  planned (Exchange old path) h =
+      after k (parsed k.bounds.path_bytes old) _ (λ from. after k (parsed k.bounds.path_bytes path) _ (λ to. unless k (is_empty from || is_empty to) EBUSY _ (
+      after k (last_of k.root EBUSY from) _ (λ at. after k (last_of k.root EBUSY to) _ (λ onto. after k (or_refuse ENOENT at.found) _ (λ what. after k (or_refuse ENOENT onto.found) _ (λ other.
+      unless k (is_directory what && is_below from to) EINVAL _ (unless k (is_directory other && is_below to from) EINVAL _ (either_given k Edits (what.0 == other.0) _ _ (λ _. tt) (λ _. inl tt))))))))))
   planned (Mkdir path) h = after k (parsed k.bounds.path_bytes path) _ (λ names. after k (last_of k.root EEXIST names) _ (λ at. after k (absent at.found) _ (λ _. inl refl)))
   planned (Rmdir path) h =
       after k (parsed k.bounds.path_bytes path) _ (λ names. after k (last_of k.root EBUSY names) _ (λ at. after k (or_refuse ENOENT at.found) _ (λ what. unless k (not (is_directory what)) ENOTDIR _ (unless k (not (is_empty (answer_to k (List_names what.0)))) ENOTEMPTY _ (inl tt)))))

@@ -1,6 +1,8 @@
 mod Files
 mod Directories
 mod Pipes
+mod Exchanged
+mod Ranges
 mod Fixed
 mod Rights
 mod Touches

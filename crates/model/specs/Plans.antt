@@ -1,6 +1,6 @@
 -- The plan of each call: its tests in order, its answer, and its edits
 -- (POSIX.1-2017, the function of each name).
-use Rattle.std.specs.Prelude.{ℕ, suc, ◌+◌, ◌-◌, ℤ, pos, negsuc, ◌+ℤ◌, List, [], ◌∷◌, ◌++◌, Bool}
+use Rattle.std.specs.Prelude.{ℕ, suc, ◌+◌, ◌-◌, ◌/◌, ℤ, pos, negsuc, ◌+ℤ◌, List, [], ◌∷◌, ◌++◌, Bool}
 use Rattle.std.specs.Prelude.{true, false, not, ◌&&◌, ◌||◌, Option, Some, None, ◌==◌, nat_lt}
 use Rattle.std.specs.Prelude.{nat_le, if◌then◌else◌, length, take, min, ⊤}
 use Rattle.std.specs.List.{flat_map, list_any}
@@ -12,20 +12,23 @@ use Rattle.model.specs.State.{Link_to, Rights}
 use Rattle.model.specs.Plan.{EAGAIN, EBADF, EBUSY, EEXIST, EFBIG, EINVAL, EISDIR, ELOOP, EMFILE}
 use Rattle.model.specs.Plan.{ENAMETOOLONG, ENOENT, ENOTDIR, ENOTEMPTY, ENXIO, EPERM, EPIPE, ESPIPE}
 use Rattle.model.specs.Plan.{List_names, Measure, Read_file, Count_links, Count_ends, Find_offset}
-use Rattle.model.specs.Plan.{Read_pipe, Fit, Read_target, Find_rights, Plan, Give, Refuse, ◌>>=◌}
+use Rattle.model.specs.Plan.{Read_pipe, Fit, Read_target, Find_rights, Pass_blocks, block_length}
+use Rattle.model.specs.Plan.{Plan, Give, Refuse, ◌>>=◌}
 use Rattle.model.specs.Plan.{◌>>◌, ask, refuse_if, or_refuse}
+use Rattle.model.specs.Holes.{behind_blocks}
 use Rattle.model.specs.Paths.{is_empty, is_below}
 use Rattle.model.specs.Walks.{parsed, walk, last_of, Last, Place, is_directory, is_link}
 use Rattle.model.specs.Changes.{There, Made, Mode, Edit, Make_directory, Make_file, Make_fixed}
 use Rattle.model.specs.Changes.{Name_file, Unname_file, Unname_directory, Move, Put_bytes, Cut, Take, Append}
-use Rattle.model.specs.Changes.{Replaced, Over_nothing, Over_file, Over_directory}
+use Rattle.model.specs.Changes.{Replaced, Over_nothing, Over_file, Over_directory, Swap, Wipe}
 use Rattle.model.specs.Changes.{Set_offset, Set_rights, Open_inode, Make_pipe, Share_slot, Clear_slot}
 use Rattle.model.specs.Changes.{New_process, End_process}
 use Rattle.ids.specs.Fixed.{special_object}
 use Rattle.ids.specs.Rights.{permitted, owned}
 use Rattle.ids.specs.Flags.{is_reading, is_writing, is_creating, is_exclusive, is_truncating}
 use Rattle.ids.specs.Flags.{is_appending}
-use Rattle.model.specs.Calls.{OpenFlags, Whence, From_start, From_offset, From_end, Call, Open}
+use Rattle.model.specs.Calls.{OpenFlags, Whence, From_start, From_offset, From_end, To_data, To_hole}
+use Rattle.model.specs.Calls.{Space, Grow, Keep, Punch, Exchange, Fallocate, Call, Open}
 use Rattle.model.specs.Calls.{Close, Read, Pread, Write, Pwrite, Lseek, Ftruncate, Truncate, Stat}
 use Rattle.model.specs.Calls.{Fstat, Link, Unlink, Rename, Mkdir, Rmdir, List_directory, Symlink}
 use Rattle.model.specs.Calls.{Readlink, Lstat, Mknod, Chmod, Chown, Fchmod, Fchown, Dup, Dup2}
@@ -218,10 +221,51 @@ sought largest it (pos place) = do
   changed (New_place place) (Set_offset it.description place ∷ [])
 sought largest it (negsuc place) = Refuse EINVAL
 
-abbrev pub base : Slot → Whence → Plan ℕ
-base it From_start = Give 0
-base it From_offset = ask (Find_offset it.description)
-base it From_end = ask (Measure it.inode)
+-- the next place of a file from one on that is in a hole, or in none; the end is a hole, and behind it
+-- nothing is (Linux, lseek: SEEK_HOLE, SEEK_DATA)
+abbrev pub found_from : Bool → ℕ → ℕ → Plan ℕ
+found_from holes n from = do
+  size ← ask (Measure n)
+  refuse_if (nat_le size from) ENXIO
+  passed ← ask (Pass_blocks (not holes) n (from / block_length)
+      (suc ((size - 1) / block_length - from / block_length)))
+  refuse_if (not holes && nat_le size (behind_blocks from passed)) ENXIO
+  Give (min size (behind_blocks from passed))
+
+-- the offset that a whence and a distance come to
+abbrev pub aimed : Slot → ℤ → Whence → Plan ℤ
+aimed it move From_start = Give move
+aimed it move From_offset = do
+  offset ← ask (Find_offset it.description)
+  Give (pos offset +ℤ move)
+aimed it move From_end = do
+  size ← ask (Measure it.inode)
+  Give (pos size +ℤ move)
+aimed it move To_data = do
+  from ← or_refuse ENXIO (offset_named move)
+  place ← found_from false it.inode from
+  Give (pos place)
+aimed it move To_hole = do
+  from ← or_refuse ENXIO (offset_named move)
+  place ← found_from true it.inode from
+  Give (pos place)
+
+-- a length that a call names: there is none of no byte
+abbrev pub length_named : ℤ → Option ℕ
+length_named (pos ℕ.zero) = None
+length_named (pos (suc more)) = Some (suc more)
+length_named (negsuc more) = None
+
+-- what becomes of a range of a file: it reaches to the range's end at least, nothing shows, or what it
+-- has of the range is zero
+abbrev pub spaced : ℕ → ℕ → ℕ → Space → Plan Change
+spaced n at count Grow = do
+  size ← ask (Measure n)
+  changed Done (if nat_lt size (at + count) then Cut n size (at + count) ∷ [] else [])
+spaced n at count Keep = unchanged Done
+spaced n at count Punch = do
+  size ← ask (Measure n)
+  changed Done (if nat_lt at size then Wipe n at (min count (size - at)) ∷ [] else [])
 
 -- what loses the name: a directory, which must be empty, or anything else
 abbrev pub replaced_by_name : ℕ → Bool → Plan Replaced
@@ -243,6 +287,12 @@ abbrev pub moved : Last → Place → Last → Option Place → Plan Change
 moved from what to None =
     changed Done (Move from.parent from.name to.parent to.name what.0 Over_nothing ∷ [])
 moved from what to (Some old) = move_onto from what to old
+
+-- each of two names gives what the other gave; two names of one object stay as they are
+abbrev pub swapped : Last → Place → Last → Place → Plan Change
+swapped at what onto other =
+    if what.0 == other.0 then unchanged Done
+    else changed Done (Swap at.parent at.name what.0 onto.parent onto.name other.0 ∷ [])
 
 -- a name that must not be there
 abbrev pub absent : Option Place → Plan ⊤
@@ -299,8 +349,8 @@ plan own (Pwrite f bytes offset) = do
 plan own (Lseek f move whence) = do
   it ← slot own f
   refuse_if (is_pipe it.kind) ESPIPE
-  place ← base it whence
-  sought own.bounds.file_bytes it (pos place +ℤ move)
+  sum ← aimed it move whence
+  sought own.bounds.file_bytes it sum
 plan own (Ftruncate f len) = do
   it ← slot own f
   refuse_if (not it.writing) EBADF
@@ -317,6 +367,16 @@ plan own (Truncate path len) = do
   refuse_if (nat_lt own.bounds.file_bytes len) EFBIG
   cut ← cut_to place.0 len
   changed Done cut
+-- the tests of a range in Linux's order: its numbers before how the file is open, and before its kind
+-- (Linux, fallocate)
+plan own (Fallocate f offset len space) = do
+  it ← slot own f
+  at ← or_refuse EINVAL (offset_named offset)
+  count ← or_refuse EINVAL (length_named len)
+  refuse_if (not it.writing) EBADF
+  refuse_if (is_pipe it.kind) ESPIPE
+  refuse_if (nat_lt own.bounds.file_bytes (at + count)) EFBIG
+  spaced it.inode at count space
 plan own (Stat path) = do
   names ← parsed own.bounds.path_bytes path
   place ← walk (own.root, Some A_directory) names
@@ -348,6 +408,18 @@ plan own (Rename old path) = do
   refuse_if (is_directory what && is_below from to) EINVAL
   onto ← last_of own.root EBUSY to
   moved at what onto onto.found
+-- both paths are walked before a name is missed (Linux, renameat2: RENAME_EXCHANGE)
+plan own (Exchange old path) = do
+  from ← parsed own.bounds.path_bytes old
+  to ← parsed own.bounds.path_bytes path
+  refuse_if (is_empty from || is_empty to) EBUSY
+  at ← last_of own.root EBUSY from
+  onto ← last_of own.root EBUSY to
+  what ← or_refuse ENOENT at.found
+  other ← or_refuse ENOENT onto.found
+  refuse_if (is_directory what && is_below from to) EINVAL
+  refuse_if (is_directory other && is_below to from) EINVAL
+  swapped at what onto other
 plan own (Mkdir path) = do
   names ← parsed own.bounds.path_bytes path
   at ← last_of own.root EEXIST names

@@ -1,6 +1,6 @@
 -- What requests do to times: which event of which inode each one is, in the view of its node. A look-up,
 -- a read and a list change no time, as where a disk is mounted with noatime.
-use Rattle.std.specs.Prelude.{ℕ, ◌||◌, List, [], ◌∷◌, Bool, true, false}
+use Rattle.std.specs.Prelude.{ℕ, ◌==◌, ◌||◌, List, [], ◌∷◌, Bool, true, false}
 use Rattle.std.specs.Prelude.{Option, Some, None, is_some, option_and_then, option_map, if◌then◌else◌}
 use Rattle.model.specs.FiniteMap as map
 use Rattle.fuse.specs.declared.request.Changes.{Changes}
@@ -48,9 +48,28 @@ of_removing lost directory = (directory, Modified) ∷ of_names lost
 abbrev pub of_moving : Option ℕ → ℕ → ℕ → Events
 of_moving moved from to = (from, Modified) ∷ (to, Modified) ∷ of_names moved
 
+-- of two objects that have other names than before
+abbrev pub of_both : Option ℕ → Option ℕ → Events
+of_both (Some inode) other = (inode, StatusChanged) ∷ of_names other
+of_both None other = of_names other
+
+-- the directories of two names that are exchanged, and what each gave; two names of one object stay
+abbrev pub are_one : Option ℕ → Option ℕ → Bool
+are_one (Some one) (Some other) = one == other
+are_one _ _ = false
+
+abbrev pub of_exchanging : Option ℕ → Option ℕ → ℕ → ℕ → Events
+of_exchanging one other first second =
+    if are_one one other then []
+    else (first, Modified) ∷ (second, Modified) ∷ of_both one other
+
 -- bytes that are written
 abbrev pub of_writing : ℕ → Events
 of_writing inode = (inode, Modified) ∷ []
+
+-- bytes that are copied, unless there are none
+abbrev pub of_copying : ℕ → ℕ → Events
+of_copying count inode = if count == 0 then [] else of_writing inode
 
 -- bytes that an open cuts
 abbrev pub of_cutting : Cut → ℕ → Events

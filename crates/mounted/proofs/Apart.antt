@@ -95,6 +95,8 @@ module _ (s later : Seen) (who : Caller) (old new : Shown) (view : ℕ) (tree : 
   serves_apart (asked.Read a b d e) r not h = at_apart s later who (asked.Read a b d e) old new view is live (class_of who.node) r refl tree h
   serves_apart (asked.Write a b d e f) r not h = at_apart s later who (asked.Write a b d e f) old new view is live (class_of who.node) r refl tree h
   serves_apart (asked.Lseek a b d) r not h = at_apart s later who (asked.Lseek a b d) old new view is live (class_of who.node) r refl tree h
+  serves_apart (asked.Fallocate a b d e) r not h = at_apart s later who (asked.Fallocate a b d e) old new view is live (class_of who.node) r refl tree h
+  serves_apart (asked.CopyFileRange a b d e f i j) r not h = at_apart s later who (asked.CopyFileRange a b d e f i j) old new view is live (class_of who.node) r refl tree h
   serves_apart (asked.Other a) r not h = at_apart s later who (asked.Other a) old new view is live (class_of who.node) r refl tree h
   serves_apart (asked.Forget a) r not h = at_apart s later who (asked.Forget a) old new view is live (class_of who.node) r refl tree h
   serves_apart (asked.BatchForget a) r not h = at_apart s later who (asked.BatchForget a) old new view is live (class_of who.node) r refl tree h
@@ -123,6 +125,8 @@ module _ (s later : Seen) (who : Caller) (old new : Shown) (view : ℕ) (tree : 
   told_apart (asked.Read a b d e) answer not h = serves_apart (asked.Read a b d e) h.outcome not h.serves
   told_apart (asked.Write a b d e f) answer not h = serves_apart (asked.Write a b d e f) h.outcome not h.serves
   told_apart (asked.Lseek a b d) answer not h = serves_apart (asked.Lseek a b d) h.outcome not h.serves
+  told_apart (asked.Fallocate a b d e) answer not h = serves_apart (asked.Fallocate a b d e) h.outcome not h.serves
+  told_apart (asked.CopyFileRange a b d e f i j) answer not h = serves_apart (asked.CopyFileRange a b d e f i j) h.outcome not h.serves
   told_apart (asked.Other a) answer not h = serves_apart (asked.Other a) h.outcome not h.serves
   told_apart (asked.Init a b d e) answer not h = serves_apart (asked.Init a b d e) h.outcome not h.serves
   told_apart asked.Destroy answer not h = serves_apart asked.Destroy h.outcome not h.serves

@@ -70,6 +70,10 @@ chosen s node (asked.SetAttr changes) = Some (process_by s (plain_file s node))
 chosen s node (asked.Read handle offset size flags) = Some (process_by s (file_at s handle))
 chosen s node (asked.Write handle offset how flags bytes) = Some (process_by s (file_at s handle))
 chosen s node (asked.Lseek handle offset whence) = Some (process_by s (file_at s handle))
+chosen s node (asked.Fallocate handle offset length mode) =
+    Some (process_by s (file_at s handle))
+chosen s node (asked.CopyFileRange handle offset to to_handle to_offset length flags) =
+    Some (process_by s (file_at s handle))
 chosen s node _ = Some 1
 
 -- how many descriptors a process of the kernel may have

@@ -98,6 +98,21 @@ fn chosen(tables: &Tables, node: u64, operation: &Operation) -> Option<Pid>
             handle,
             offset: _,
             whence: _,
+        }
+        | Operation::Fallocate {
+            handle,
+            offset: _,
+            length: _,
+            mode: _,
+        }
+        | Operation::CopyFileRange {
+            handle,
+            offset: _,
+            to_node: _,
+            to_handle: _,
+            to_offset: _,
+            length: _,
+            flags: _,
         } => Some(process_by(tables, tables.files.get(*handle))),
         _ => Some(first_process(0)),
     }

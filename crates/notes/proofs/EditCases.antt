@@ -1,11 +1,11 @@
 -- What an edit of today makes of each object.
-use Rattle.std.specs.Prelude.{◌++◌, drop}
+use Rattle.std.specs.Prelude.{◌++◌, drop, replicate}
 use Rattle.std.proofs.Common.{◌≡◌, ℕ, ◌+◌, ◌==◌, Bool, true, false, cond, List, [], Option, Some, None, refl, sym, ap, ◌∙◌, eq-eqb, ne_eqb, inl, inr}
 use Rattle.std.specs.Ordering.{nat_cmp}
 use Rattle.std.proofs.lemmas.Bool.{cases_eq}
 use Rattle.model.specs.FiniteMap.{FinMap, get, insert, remove}
 use Rattle.model.specs.State.{Name, Kernel, Inode, File, Directory, Pipe, Fixed_content, Process, Rights, Description, mapped, names_of_inode, file_of_inode, pipe_of_inode}
-use Rattle.model.specs.Changes.{Edit, Which, Mode, Make_directory, Make_file, Make_fixed, Name_file, Unname_file, Unname_directory, Move, Put_bytes, Cut, Take, Append, Set_offset, Set_rights, Open_inode, Make_pipe, Share_slot, Clear_slot, New_process, End_process}
+use Rattle.model.specs.Changes.{Edit, Which, Mode, Make_directory, Make_file, Make_fixed, Name_file, Unname_file, Unname_directory, Move, Put_bytes, Cut, Take, Append, Set_offset, Set_rights, Open_inode, Make_pipe, Share_slot, Clear_slot, New_process, End_process, Swap, Wipe}
 use Rattle.model.specs.Changes.{Replaced, clear_name, number, applied, at_offset, at_start, or_new, set_inode, set_name, set_offset, sized, to_read, to_write, written, with_slot, without_slot}
 use Rattle.model.proofs.Laws.{get_same, get_other}
 use Rattle.notes.specs.declared.new_object.NewObject.{NewObject as What}
@@ -31,28 +31,32 @@ pub by_one : (P : Edit → Type 0)
     → ((p : ℕ) (bytes : List ℕ) → P (Append p bytes))
     → ((i pid f g : ℕ) → P (Make_pipe i pid f g))
     → ((n : ℕ) (rights : Rights) → P (Set_rights n rights))
+    → ((d : ℕ) (x : Name) (n e : ℕ) (y : Name) (m : ℕ) → P (Swap d x n e y m))
+    → ((n place count : ℕ) → P (Wipe n place count))
     → (e : Edit) → IsOne e → P e
-by_one P a b k c l u m d e f g h t v w z j (Make_directory p x i) one = a p x i
-by_one P a b k c l u m d e f g h t v w z j (Make_file p x i) one = b p x i
-by_one P a b k c l u m d e f g h t v w z j (Make_fixed p x fixed i) one = k p x fixed i
-by_one P a b k c l u m d e f g h t v w z j (Unname_directory p x n) one = c p x n
-by_one P a b k c l u m d e f g h t v w z j (Put_bytes n place bytes before) one = d n place bytes before
-by_one P a b k c l u m d e f g h t v w z j (Cut n before after) one = e n before after
-by_one P a b k c l u m d e f g h t v w z j (Open_inode i inode mode pid s) one = f i inode mode pid s
-by_one P a b k c l u m d e f g h t v w z j (Set_offset o place) one = g o place
-by_one P a b k c l u m d e f g h t v w z j (Clear_slot pid s pipes) one = h pid s pipes
-by_one P a b k c l u m d e f g h t v w z j (Name_file p x n) one = l p x n
-by_one P a b k c l u m d e f g h t v w z j (Unname_file p x n) one = u p x n
-by_one P a b k c l u m d e f g h t v w z j (Move p x q y n replaced) one = m p x q y n replaced
-by_one P a b k c l u m d e f g h t v w z j (Take p count) one = v p count
-by_one P a b k c l u m d e f g h t v w z j (Append p bytes) one = w p bytes
-by_one P a b k c l u m d e f g h t v w z j (Make_pipe i pid s r) one = z i pid s r
-by_one P a b k c l u m d e f g h t v w z j (Set_rights n rights) one = j n rights
-by_one P a b k c l u m d e f g h t v w z j (Share_slot pid s o pipes) one = t pid s o pipes
-by_one P a b k c l u m d e f g h t v w z j (New_process child parent pipes) (inl one) = absurd one
-by_one P a b k c l u m d e f g h t v w z j (New_process child parent pipes) (inr one) = absurd one.1
-by_one P a b k c l u m d e f g h t v w z j (End_process pid pipes) (inl one) = absurd one
-by_one P a b k c l u m d e f g h t v w z j (End_process pid pipes) (inr one) = absurd one.1
+by_one P a b k c l u m d e f g h t v w z j exchange wipe (Make_directory p x i) one = a p x i
+by_one P a b k c l u m d e f g h t v w z j exchange wipe (Make_file p x i) one = b p x i
+by_one P a b k c l u m d e f g h t v w z j exchange wipe (Make_fixed p x fixed i) one = k p x fixed i
+by_one P a b k c l u m d e f g h t v w z j exchange wipe (Unname_directory p x n) one = c p x n
+by_one P a b k c l u m d e f g h t v w z j exchange wipe (Put_bytes n place bytes before) one = d n place bytes before
+by_one P a b k c l u m d e f g h t v w z j exchange wipe (Cut n before after) one = e n before after
+by_one P a b k c l u m d e f g h t v w z j exchange wipe (Open_inode i inode mode pid s) one = f i inode mode pid s
+by_one P a b k c l u m d e f g h t v w z j exchange wipe (Set_offset o place) one = g o place
+by_one P a b k c l u m d e f g h t v w z j exchange wipe (Clear_slot pid s pipes) one = h pid s pipes
+by_one P a b k c l u m d e f g h t v w z j exchange wipe (Name_file p x n) one = l p x n
+by_one P a b k c l u m d e f g h t v w z j exchange wipe (Unname_file p x n) one = u p x n
+by_one P a b k c l u m d e f g h t v w z j exchange wipe (Move p x q y n replaced) one = m p x q y n replaced
+by_one P a b k c l u m d e f g h t v w z j exchange wipe (Take p count) one = v p count
+by_one P a b k c l u m d e f g h t v w z j exchange wipe (Append p bytes) one = w p bytes
+by_one P a b k c l u m d e f g h t v w z j exchange wipe (Make_pipe i pid s r) one = z i pid s r
+by_one P a b k c l u m d e f g h t v w z j exchange wipe (Set_rights n rights) one = j n rights
+by_one P a b k c l u m d e f g h t v w z j exchange wipe (Share_slot pid s o pipes) one = t pid s o pipes
+by_one P a b k c l u m d e f g h t v w z j exchange wipe (Swap p x n q y o) one = exchange p x n q y o
+by_one P a b k c l u m d e f g h t v w z j exchange wipe (Wipe n place count) one = wipe n place count
+by_one P a b k c l u m d e f g h t v w z j exchange wipe (New_process child parent pipes) (inl one) = absurd one
+by_one P a b k c l u m d e f g h t v w z j exchange wipe (New_process child parent pipes) (inr one) = absurd one.1
+by_one P a b k c l u m d e f g h t v w z j exchange wipe (End_process pid pipes) (inl one) = absurd one
+by_one P a b k c l u m d e f g h t v w z j exchange wipe (End_process pid pipes) (inr one) = absurd one.1
 
 -- what holds of each edit that may come first, and of each that may come last
 pub first_cases : (P : Edit → Type 0)
@@ -69,26 +73,30 @@ pub first_cases : (P : Edit → Type 0)
     → ((p : ℕ) (bytes : List ℕ) → P (Append p bytes))
     → ((i pid f g : ℕ) → i ≡ 0 → P (Make_pipe i pid f g))
     → ((n : ℕ) (rights : Rights) → P (Set_rights n rights))
+    → ((d : ℕ) (x : Name) (n e : ℕ) (y : Name) (m : ℕ) → P (Swap d x n e y m))
+    → ((n place count : ℕ) → P (Wipe n place count))
     → (e : Edit) → IsFirst e → P e
-first_cases P a b k c l u m d e v w z j (Make_directory p x i) first = a p x i first
-first_cases P a b k c l u m d e v w z j (Make_file p x i) first = b p x i first
-first_cases P a b k c l u m d e v w z j (Make_fixed p x fixed i) first = k p x fixed i first
-first_cases P a b k c l u m d e v w z j (Unname_directory p x n) first = c p x n
-first_cases P a b k c l u m d e v w z j (Put_bytes n place bytes before) first = d n place bytes before
-first_cases P a b k c l u m d e v w z j (Cut n before after) first = e n before after
-first_cases P a b k c l u m d e v w z j (Open_inode i inode mode pid s) first = absurd first
-first_cases P a b k c l u m d e v w z j (Set_offset o place) first = absurd first
-first_cases P a b k c l u m d e v w z j (Clear_slot pid s pipes) first = absurd first
-first_cases P a b k c l u m d e v w z j (Name_file p x n) first = l p x n
-first_cases P a b k c l u m d e v w z j (Unname_file p x n) first = u p x n
-first_cases P a b k c l u m d e v w z j (Move p x q y n replaced) first = m p x q y n replaced
-first_cases P a b k c l u m d e v w z j (Take p count) first = v p count
-first_cases P a b k c l u m d e v w z j (Append p bytes) first = w p bytes
-first_cases P a b k c l u m d e v w z j (Make_pipe i pid s t) first = z i pid s t first.0
-first_cases P a b k c l u m d e v w z j (Set_rights n rights) first = j n rights
-first_cases P a b k c l u m d e v w z j (Share_slot pid s o pipes) first = absurd first
-first_cases P a b k c l u m d e v w z j (New_process child parent pipes) first = absurd first
-first_cases P a b k c l u m d e v w z j (End_process pid pipes) first = absurd first
+first_cases P a b k c l u m d e v w z j exchange wipe (Make_directory p x i) first = a p x i first
+first_cases P a b k c l u m d e v w z j exchange wipe (Make_file p x i) first = b p x i first
+first_cases P a b k c l u m d e v w z j exchange wipe (Make_fixed p x fixed i) first = k p x fixed i first
+first_cases P a b k c l u m d e v w z j exchange wipe (Unname_directory p x n) first = c p x n
+first_cases P a b k c l u m d e v w z j exchange wipe (Put_bytes n place bytes before) first = d n place bytes before
+first_cases P a b k c l u m d e v w z j exchange wipe (Cut n before after) first = e n before after
+first_cases P a b k c l u m d e v w z j exchange wipe (Open_inode i inode mode pid s) first = absurd first
+first_cases P a b k c l u m d e v w z j exchange wipe (Set_offset o place) first = absurd first
+first_cases P a b k c l u m d e v w z j exchange wipe (Clear_slot pid s pipes) first = absurd first
+first_cases P a b k c l u m d e v w z j exchange wipe (Name_file p x n) first = l p x n
+first_cases P a b k c l u m d e v w z j exchange wipe (Unname_file p x n) first = u p x n
+first_cases P a b k c l u m d e v w z j exchange wipe (Move p x q y n replaced) first = m p x q y n replaced
+first_cases P a b k c l u m d e v w z j exchange wipe (Take p count) first = v p count
+first_cases P a b k c l u m d e v w z j exchange wipe (Append p bytes) first = w p bytes
+first_cases P a b k c l u m d e v w z j exchange wipe (Make_pipe i pid s t) first = z i pid s t first.0
+first_cases P a b k c l u m d e v w z j exchange wipe (Set_rights n rights) first = j n rights
+first_cases P a b k c l u m d e v w z j exchange wipe (Share_slot pid s o pipes) first = absurd first
+first_cases P a b k c l u m d e v w z j exchange wipe (Swap p x n q y o) first = exchange p x n q y o
+first_cases P a b k c l u m d e v w z j exchange wipe (Wipe n place count) first = wipe n place count
+first_cases P a b k c l u m d e v w z j exchange wipe (New_process child parent pipes) first = absurd first
+first_cases P a b k c l u m d e v w z j exchange wipe (End_process pid pipes) first = absurd first
 
 pub last_cases : (m : ℕ) (P : Edit → Type 0)
     → ((i : ℕ) (inode : Which) (mode : Mode) (pid f : ℕ) → i ≡ m → P (Open_inode i inode mode pid f))
@@ -112,6 +120,8 @@ last_cases k P f g h t (Take p count) last = absurd last
 last_cases k P f g h t (Append p bytes) last = absurd last
 last_cases k P f g h t (Make_pipe i pid s r) last = absurd last
 last_cases k P f g h t (Set_rights n rights) last = absurd last
+last_cases k P f g h t (Swap p x n q y o) last = absurd last
+last_cases k P f g h t (Wipe n place count) last = absurd last
 last_cases k P f g h t (Share_slot pid s o pipes) last = t pid s o pipes
 last_cases k P f g h t (New_process child parent pipes) last = absurd last
 last_cases k P f g h t (End_process pid pipes) last = absurd last
@@ -137,6 +147,12 @@ moved_applies : (d : ℕ) (x : Name) (e : ℕ) (y : Name) (n : ℕ) (k : Kernel)
 moved_applies d x e y n k q =
     changed_at (clear_name d x k).inodes e q (λ o. Directory (insert (names_of_inode o) y n))
     ∙ ap (λ (o : Option Inode). cond (q == e) (name_noted y (Some n) o) o) (changed_at k.inodes d q (λ o. Directory (remove (names_of_inode o) x)))
+
+-- two names that change places
+swapped_applies : (d : ℕ) (x : Name) (n e : ℕ) (y : Name) (m : ℕ) (k : Kernel) (q : ℕ) → get (set_name e y n (set_name d x m k)).inodes q ≡ named_at e y (Some n) q (named_at d x (Some m) q (get k.inodes q))
+swapped_applies d x n e y m k q =
+    changed_at (set_name d x m k).inodes e q (λ o. Directory (insert (names_of_inode o) y n))
+    ∙ ap (λ (o : Option Inode). cond (q == e) (name_noted y (Some n) o) o) (changed_at k.inodes d q (λ o. Directory (insert (names_of_inode o) x m)))
 
 -- an offset, where there is such a description
 offset_applies : (chosen : List ℕ) (d place : ℕ) (k : Kernel) (o : Option Description) → get k.descriptions d ≡ o → Applies chosen (Set_offset d place) k (set_offset d place o k)
@@ -335,6 +351,24 @@ applies chosen e one k = by_one (λ e. Applies chosen e k (applied chosen e k))
       bounds = refl;
       inodes = λ q. refl;
       rights = λ q. put_at k.rights n q rights;
+      descriptions = λ d. refl;
+      processes = λ pid. refl;
+    })
+    (λ d x n e y m. record {
+      root = refl;
+      made = refl;
+      bounds = refl;
+      inodes = swapped_applies d x n e y m k;
+      rights = λ n. refl;
+      descriptions = λ d. refl;
+      processes = λ pid. refl;
+    })
+    (λ n place count. record {
+      root = refl;
+      made = refl;
+      bounds = refl;
+      inodes = λ q. changed_at k.inodes n q (λ o. File (written (file_of_inode o) place (replicate count 0)));
+      rights = λ n. refl;
       descriptions = λ d. refl;
       processes = λ pid. refl;
     })

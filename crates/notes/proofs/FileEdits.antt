@@ -1,8 +1,8 @@
 -- What patches take in of an edit of a file's bytes.
-use Rattle.std.proofs.Common.{◌≡◌, ℕ, ◌≤◌, ◌==◌, ◌↔◌, Bool, cond, true, false, length, List, [], ◌++◌, Option, Some, refl, sym, ap, ◌∙◌, subst, arith, eq-eqb, ne_eqb, inl, inr, append-nil}
+use Rattle.std.proofs.Common.{◌≡◌, ℕ, ◌≤◌, ◌==◌, ◌↔◌, Bool, cond, true, false, length, replicate, List, [], ◌++◌, Option, Some, refl, sym, ap, ◌∙◌, subst, arith, eq-eqb, ne_eqb, inl, inr, append-nil}
 use Rattle.std.proofs.lemmas.Bool.{cases_eq}
 use Rattle.model.specs.State.{Inode}
-use Rattle.model.specs.Changes.{Put_bytes, Cut}
+use Rattle.model.specs.Changes.{Put_bytes, Cut, Wipe}
 use Rattle.std.specs.List.{Contains}
 use Rattle.model.specs.Plan.{blocks}
 use Rattle.notes.specs.Patches.{AllReach, new_ends, Net, Patches, added_by, form_of, net_at, numbers_in, patched}
@@ -103,4 +103,30 @@ pub cut_takes : (file before after : ℕ) (old new : Patches) → At file (IsFil
 cut_takes file before after old new at rights openings slots unnamed_inodes =
     takes_first [] (Cut file before after) old new
     (λ n. cut_taken file before after n (net_at old.inodes n) (net_at new.inodes n) (filing_at file (bytes_cut after) [] old.inodes new.inodes at n))
+    rights openings slots (unnamed_inodes ∙ sym (append-nil old.unnamed_inodes)) (λ n o. refl) (λ d o. refl) (λ pid o. refl) refl
+
+wipe_taken : (file place count n : ℕ) (s t : Net) → Filing file (bytes_written place (replicate count 0)) (blocks place count) n s t → Taken [] (Wipe file place count) n s t
+wipe_taken file place count n s t r =
+    let promised : t.promised ≡ s.promised = ap (λ (net : Net). net.promised) r.rest in
+    let named : t.named ≡ s.named = ap (λ (net : Net). net.named) r.rest in
+    let unnamed : t.unnamed ≡ s.unnamed = ap (λ (net : Net). net.unnamed) r.rest in
+    let added : added_by t.contents ≤ added_by s.contents = r.added in
+    record {
+      contents = λ o can. r.contents o;
+      reach = λ o can. r.reached o;
+      ends = λ ends is. inl (r.ends ends is);
+      made = ap (λ (net : Net). net.made) r.rest;
+      promised = omega arith;
+      named = omega arith;
+      unnamed = omega arith;
+      form = r.form;
+      added = omega arith;
+      written = r.numbers;
+    }
+
+pub wipe_takes : (file place count : ℕ) (old new : Patches) → At file (IsFiled (bytes_written place (replicate count 0)) (blocks place count)) old.inodes new.inodes
+    → new.rights ≡ old.rights → new.openings ≡ old.openings → new.slots ≡ old.slots → new.unnamed_inodes ≡ old.unnamed_inodes → TakesIn [] (Wipe file place count) old new
+wipe_takes file place count old new at rights openings slots unnamed_inodes =
+    takes_first [] (Wipe file place count) old new
+    (λ n. wipe_taken file place count n (net_at old.inodes n) (net_at new.inodes n) (filing_at file (bytes_written place (replicate count 0)) (blocks place count) old.inodes new.inodes at n))
     rights openings slots (unnamed_inodes ∙ sym (append-nil old.unnamed_inodes)) (λ n o. refl) (λ d o. refl) (λ pid o. refl) refl

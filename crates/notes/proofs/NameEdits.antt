@@ -1,15 +1,18 @@
 -- What patches take in of an edit of names.
-use Rattle.std.proofs.Common.{◌≡◌, ◌≢◌, ℕ, ◌+◌, ◌≤◌, ◌==◌, ◌||◌, if◌then◌else◌, cond, true, false, List, [], ◌∷◌, ◌++◌, Option, Some, None, refl, sym, ap, ◌∙◌, subst, arith, eq-eqb, ne_eqb, inl, inr, append-nil}
+use Rattle.std.proofs.Common.{◌≡◌, ◌≢◌, ℕ, ◌+◌, ◌-◌, ◌<◌, ◌≤◌, ◌==◌, ◌||◌, if◌then◌else◌, cond, true, false, List, [], ◌∷◌, ◌++◌, Option, Some, None, refl, sym, ap, ◌∙◌, subst, arith, eq-eqb, ne_eqb, inl, inr, append-nil}
 use Rattle.std.proofs.lemmas.Bool.{cases_eq}
+use Rattle.std.proofs.lemmas.List.Sums.{sum_by-cons}
 use Rattle.model.specs.State.{Name, Inode}
-use Rattle.model.specs.Changes.{Move, Name_file, Unname_file, Replaced, inode_replaced}
+use Rattle.model.specs.Changes.{Move, Swap, Name_file, Unname_file, Replaced, inode_replaced}
 use Rattle.freeing_laws.specs.Counts.{named, times, unnamed}
+use Rattle.notes.specs.declared.change.Contents.{Contents}
+use Rattle.notes.specs.declared.change.Former.{Former}
 use Rattle.notes.specs.declared.change.Made.{Made as What}
 use Rattle.notes.specs.declared.change.Made.TheVariants.{Directory as A_directory, File as A_file, Pipe as A_pipe, Fixed as A_fixed}
 use Rattle.notes.specs.declared.new_object.NewObject.{NewObject}
 use Rattle.notes.specs.declared.new_object.NewObject.TheVariants.{Directory as New_directory, File as New_file, Fixed as New_fixed}
 use Rattle.notes.specs.Patches.{AllReach, new_ends, Net, Patches, added_by, form_of, net_at, numbers_in, patched}
-use Rattle.notes.specs.Notes.{AreNamed, At, IsGiven, IsMade, IsNamed, IsUnnamed, room_for}
+use Rattle.notes.specs.Notes.{AreNamed, AreSwapped, At, IsGivenOver, IsTakenBack, SameInodes, IsGiven, IsMade, IsNamed, IsUnnamed, room_for}
 use Rattle.notes.specs.Steps.{TakesIn, made_at, made_form, made_of, making, named_at, listed_at, kept_beside, unnaming}
 use Rattle.notes.proofs.InodeNotes.{Changes, counted_here, counted_elsewhere, as_written, Taken, no_ends, takes_first}
 
@@ -381,3 +384,73 @@ pub moved_count : (d : ℕ) (x : Name) (e : ℕ) (y : Name) (num : ℕ) (s t : C
 moved_count d x e y num s t moved n =
     ap (λ (net : Net). net.unnamed) (naming_at e y (Some num) moved.mid t moved.come n).rest
     ∙ ap (λ (net : Net). net.unnamed) (naming_at d x None s moved.mid moved.gone n).rest
+
+-- Two names change places.
+two_times : (n d e : ℕ) → times n (d ∷ e ∷ []) ≡ times n (d ∷ []) + times n (e ∷ [])
+two_times n d e =
+    let both : times n (d ∷ e ∷ []) ≡ cond (d == n) 1 0 + times n (e ∷ []) = sum_by-cons (λ v. cond (v == n) 1 0) d (e ∷ []) in
+    let one : times n (d ∷ []) ≡ cond (d == n) 1 0 + times n [] = sum_by-cons (λ v. cond (v == n) 1 0) d [] in
+    let none : times n [] ≡ 0 = refl in omega arith
+
+swapping_taken : (chosen : List ℕ) (d : ℕ) (x : Name) (num e : ℕ) (y : Name) (other n : ℕ) (s a t : Net) → Naming d x (Some other) n s a → Naming e y (Some num) n a t → Taken chosen (Swap d x num e y other) n s t
+swapping_taken chosen d x num e y other n s a t g h =
+    let promised_first : a.promised ≡ s.promised + times n (d ∷ []) = g.promised in
+    let promised_next : t.promised ≡ a.promised + times n (e ∷ []) = h.promised in
+    let both : times n (d ∷ e ∷ []) ≡ times n (d ∷ []) + times n (e ∷ []) = two_times n d e in
+    let named_first : a.named ≡ s.named = ap (λ (net : Net). net.named) g.rest in
+    let named_next : t.named ≡ a.named = ap (λ (net : Net). net.named) h.rest in
+    let unnamed_first : a.unnamed ≡ s.unnamed = ap (λ (net : Net). net.unnamed) g.rest in
+    let unnamed_next : t.unnamed ≡ a.unnamed = ap (λ (net : Net). net.unnamed) h.rest in
+    let added_first : added_by a.contents ≤ added_by s.contents + times n (d ∷ []) = g.added in
+    let added_next : added_by t.contents ≤ added_by a.contents + times n (e ∷ []) = h.added in
+    record {
+      contents = λ o can. h.contents o ∙ ap (named_at e y (Some num) n) (g.contents o);
+      reach = λ o can was. h.reach o (g.reach o was);
+      ends = λ ends is. inl (g.ends ends (h.ends ends is));
+      made = ap (λ (net : Net). net.made) h.rest ∙ ap (λ (net : Net). net.made) g.rest;
+      promised = omega arith;
+      named = omega arith;
+      unnamed = omega arith;
+      form = h.form ∙ ap (listed_at e n) g.form;
+      added = omega arith;
+      written = λ k. as_written k (numbers_in t.contents) (kept_beside e n (kept_beside d n (numbers_in s.contents))) (h.numbers ∙ ap (kept_beside e n) g.numbers);
+    }
+
+pub swapping_takes : (chosen : List ℕ) (d : ℕ) (x : Name) (num e : ℕ) (y : Name) (other : ℕ) (old new : Patches) → AreSwapped d x num e y other old.inodes new.inodes
+    → new.rights ≡ old.rights → new.openings ≡ old.openings → new.slots ≡ old.slots → new.unnamed_inodes ≡ old.unnamed_inodes → TakesIn chosen (Swap d x num e y other) old new
+swapping_takes chosen d x num e y other old new swapped rights openings slots unnamed_inodes =
+    takes_first chosen (Swap d x num e y other) old new (λ n. swapping_taken chosen d x num e y other n (net_at old.inodes n) (net_at swapped.mid n) (net_at new.inodes n)
+    (naming_at d x (Some other) old.inodes swapped.mid swapped.first n) (naming_at e y (Some num) swapped.mid new.inodes swapped.second n))
+    rights openings slots (unnamed_inodes ∙ sym (append-nil old.unnamed_inodes)) (λ n o. refl) (λ d o. refl) (λ pid o. refl) refl
+
+-- a name that was given, and is taken back
+given_and_taken : (x : Name) (n : ℕ) (former : Former) (s m t : Net) → IsGivenOver x n former s m → IsTakenBack x former m t → t ≡ s
+given_and_taken x n former s m t g back =
+    let promised : m.promised ≡ s.promised + 1 = g.named.promised in
+    let less : m.promised - 1 ≡ s.promised = omega (arith, promised) in
+    back
+    ∙ ap (λ (w : Contents). record m { contents = w; promised = m.promised - 1 }) g.back
+    ∙ ap (λ (r : ℕ). record m { contents = s.contents; promised = r }) less
+    ∙ g.named.rest
+
+pub swap_undone : (d : ℕ) (x : Name) (n : ℕ) (former : Former) (s a b t : Changes) → At d (IsGivenOver x n former) s a → SameInodes a b → At d (IsTakenBack x former) b t → SameInodes s t
+swap_undone d x n former s a b t given same back = record {
+  nets = each;
+  places = λ q there. back.places q (same.places q (given.places q there));
+}
+  where
+    each : (q : ℕ) → net_at t q ≡ net_at s q
+    each q = elim (cases_eq q d) [
+      | inl here ↦
+          ap (net_at t) here
+          ∙ given_and_taken x n former (net_at s d) (net_at a d) (net_at t d) given.here (subst (λ (net : Net). IsTakenBack x former net (net_at t d)) (same.nets d) back.here)
+          ∙ sym (ap (net_at s) here)
+      | inr away ↦ back.others q away ∙ same.nets q ∙ given.others q away
+    ]
+
+-- there is room to give up again
+pub room_given : (d : ℕ) (x : Name) (n : ℕ) (former : Former) (s a b : Changes) → At d (IsGivenOver x n former) s a → SameInodes a b → 0 < (net_at b d).promised
+room_given d x n former s a b given same =
+    let promised : (net_at a d).promised ≡ (net_at s d).promised + 1 = given.here.named.promised in
+    let still : (net_at b d).promised ≡ (net_at a d).promised = ap (λ (net : Net). net.promised) (same.nets d) in
+    omega arith

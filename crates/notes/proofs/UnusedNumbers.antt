@@ -1,7 +1,7 @@
 -- What patches take in of an edit does not hang on numbers of the call that the edit does not use.
 use Rattle.std.proofs.Common.{◌≡◌, ℕ, List, [], ◌∷◌, sym, subst}
 use Rattle.model.specs.State.{Fixed_content, Name}
-use Rattle.model.specs.Changes.{Append, Cut, Make_directory, Make_file, Make_fixed, Make_pipe, Put_bytes, Take}
+use Rattle.model.specs.Changes.{Append, Cut, Make_directory, Make_file, Make_fixed, Make_pipe, Put_bytes, Take, Wipe}
 use Rattle.notes.specs.Patches.{Patches}
 use Rattle.notes.specs.Steps.{TakesIn, new_in}
 
@@ -93,6 +93,25 @@ module _ (chosen : List ℕ) (p q : Patches) where
 
   pub cut_taken : (n before after : ℕ) → TakesIn [] (Cut n before after) p q → TakesIn chosen (Cut n before after) p q
   cut_taken n before after t = record {
+    inodes = t.inodes;
+    reach = t.reach;
+    pipes = t.pipes;
+    rights = t.rights;
+    descriptions = t.descriptions;
+    processes = t.processes;
+    made = t.made;
+    promised = t.promised;
+    named = t.named;
+    unnamed = t.unnamed;
+    unnamed_inodes = t.unnamed_inodes;
+    forms = t.forms;
+    added = t.added;
+    news = t.news;
+    written = t.written;
+  }
+
+  pub wiped_taken : (n place count : ℕ) → TakesIn [] (Wipe n place count) p q → TakesIn chosen (Wipe n place count) p q
+  wiped_taken n place count t = record {
     inodes = t.inodes;
     reach = t.reach;
     pipes = t.pipes;

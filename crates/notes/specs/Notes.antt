@@ -1,5 +1,6 @@
 -- What noting one thing changes of what is kept of an inode.
 use Rattle.std.specs.Prelude.{◌≡◌, ◌≢◌, ◌↔◌, ℕ, ◌+◌, ◌≤◌, List, [], ◌++◌, Contains, drop, length, true}
+use Rattle.std.specs.Prelude.{◌-◌, replicate}
 use Rattle.std.specs.Prelude.{Option, Some, None}
 use Rattle.dirlist.specs.Patches.{noted_back}
 use Rattle.model.specs.State.{Name, Inode, Pipe, Process, Rights, pipe_of_inode}
@@ -47,6 +48,9 @@ pub record IsFiled (f : Option Inode → Option Inode) (more : List ℕ) (old ne
 
 abbrev pub IsWritten : ℕ → List ℕ → Net → Net → Type 0
 IsWritten place bytes = IsFiled (bytes_written place bytes) (blocks place (length bytes))
+
+abbrev pub IsWiped : ℕ → ℕ → Net → Net → Type 0
+IsWiped place count = IsFiled (bytes_written place (replicate count 0)) (blocks place count)
 
 abbrev pub IsCut : ℕ → Net → Net → Type 0
 IsCut after = IsFiled (bytes_cut after) []
@@ -121,6 +125,13 @@ pub record AreNamed (d : ℕ) (x : Name) (e : ℕ) (y : Name) (n : ℕ) (old new
   pub gone : At d (IsNamed x None) old mid
   pub come : At e (IsNamed y (Some n)) mid new
 
+-- A name of directory d gave m, and then one of e gave n.
+pub record AreSwapped (d : ℕ) (x : Name) (n e : ℕ) (y : Name) (m : ℕ)
+    (old new : List (ℕ × InodeChange)) : Type 0 where
+  pub mid : List (ℕ × InodeChange)
+  pub first : At d (IsNamed x (Some m)) old mid
+  pub second : At e (IsNamed y (Some n)) mid new
+
 -- the contents with what was noted of a name before its note, or what was there before the first
 abbrev pub put_back : Former → Name → Contents → Contents
 put_back (Other contents) x now = contents
@@ -134,6 +145,18 @@ put_back (Noted given) x (As_fixed fixed) = As_fixed fixed
 pub record IsGone (x : Name) (former : Former) (old new : Net) : Type 0 where
   pub named : IsNamed x None old new
   pub back : put_back former x new.contents ≡ old.contents
+
+-- The name of the directory gives this number, and the note can be taken back.
+pub record IsGivenOver (x : Name) (n : ℕ) (former : Former) (old new : Net) : Type 0 where
+  pub named : IsNamed x (Some n) old new
+  pub back : put_back former x new.contents ≡ old.contents
+
+-- the same with the room that was promised for it
+abbrev pub IsTakenBack : Name → Former → Net → Net → Type 0
+IsTakenBack x former old new = new ≡ record old {
+  contents = put_back former x old.contents;
+  promised = old.promised - 1;
+}
 
 abbrev pub IsPutBack : Name → Former → Net → Net → Type 0
 IsPutBack x former old new = new ≡ record old { contents = put_back former x old.contents }

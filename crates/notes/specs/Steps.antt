@@ -1,6 +1,6 @@
 -- One edit of a call with the call's new numbers, and what it makes of each object.
 use Rattle.std.specs.Prelude.{◌≡◌, ◌≢◌, ◌↔◌, Contains}
-use Rattle.std.specs.Prelude.{ℕ, ◌+◌, ◌<◌, ◌≤◌, ◌==◌, ◌||◌, ◌⊎◌, Bool, true, false, ⊤, drop}
+use Rattle.std.specs.Prelude.{ℕ, ◌+◌, ◌<◌, ◌≤◌, ◌==◌, ◌||◌, ◌⊎◌, Bool, true, false, ⊤, drop, replicate}
 use Rattle.std.specs.Prelude.{List, [], ◌∷◌, ◌++◌, map, length, Option, Some, None, if◌then◌else◌}
 use Rattle.std.specs.List.{flat_map}
 use Rattle.model.specs.FiniteMap.{get, empty}
@@ -11,6 +11,7 @@ use Rattle.model.specs.State.{A_pipe as Pipe_kind, kind, mapped, names_of_inode,
 use Rattle.model.specs.State.{Rights, pipe_of_inode}
 use Rattle.model.specs.Changes.{Edit, Which, There, Made, number, news, Make_directory, Make_file}
 use Rattle.model.specs.Changes.{Make_fixed, Name_file, Unname_file, Unname_directory, Move, Put_bytes, Cut}
+use Rattle.model.specs.Changes.{Swap, Wipe}
 use Rattle.model.specs.Changes.{Append, Make_pipe, Set_offset, Set_rights, Take, to_read, to_write}
 use Rattle.model.specs.Changes.{Open_inode, Share_slot, Clear_slot, applied, sized, written, at_start, at_offset}
 use Rattle.model.specs.Changes.{with_slot, without_slot, or_new}
@@ -70,7 +71,9 @@ IsFirst (Name_file d x n) = ⊤
 IsFirst (Unname_file d x n) = ⊤
 IsFirst (Unname_directory d x n) = ⊤
 IsFirst (Move d x e y n replaced) = ⊤
+IsFirst (Swap d x n e y m) = ⊤
 IsFirst (Put_bytes n place bytes before) = place + length bytes ≤ largest_file
+IsFirst (Wipe n place count) = place + count ≤ largest_file
 IsFirst (Cut n before after) = after ≤ largest_file
 IsFirst (Take p count) = ⊤
 IsFirst (Append p bytes) = ⊤
@@ -87,11 +90,17 @@ TakesNoMemory e = IsFirst e
 
 -- and of these, the edits of a name
 abbrev pub IsNaming : Edit → Type 0
+IsNaming (Wipe n place count) = ⊥
 IsNaming (Cut n before after) = ⊥
 IsNaming (Take p count) = ⊥
 IsNaming (Append p bytes) = ⊥
 IsNaming (Set_rights n rights) = ⊥
 IsNaming e = TakesNoMemory e
+
+-- and of those, the exchange of two names
+abbrev pub IsSwap : Edit → Type 0
+IsSwap (Swap d x n e y m) = ⊤
+IsSwap _ = ⊥
 
 abbrev pub IsBelow : ℕ → Which → Type 0
 IsBelow m (There n) = ⊤
@@ -162,8 +171,11 @@ inode_after chosen (Unname_file d x m) n o = named_at d x None n o
 inode_after chosen (Unname_directory d x m) n o = named_at d x None n o
 inode_after chosen (Move d x e y m replaced) n o =
     named_at e y (Some m) n (named_at d x None n o)
+inode_after chosen (Swap d x m e y q) n o = named_at e y (Some m) n (named_at d x (Some q) n o)
 inode_after chosen (Put_bytes m place bytes before) n o =
     if n == m then bytes_written place bytes o else o
+inode_after chosen (Wipe m place count) n o =
+    if n == m then bytes_written place (replicate count 0) o else o
 inode_after chosen (Cut m before after) n o = if n == m then bytes_cut after o else o
 inode_after chosen (Take p count) n o = if n == p then bytes_taken count o else o
 inode_after chosen (Append p bytes) n o = if n == p then bytes_appended bytes o else o
@@ -226,13 +238,14 @@ opened_in chosen (Open_inode i inode mode pid f) = new_in chosen i ∷ []
 opened_in chosen (Make_pipe i pid f g) = new_in chosen (i + 1) ∷ new_in chosen (i + 2) ∷ []
 opened_in chosen _ = []
 
--- the directory to which an edit adds a name
+-- the directories to which an edit adds a name, or in which it gives one anew
 abbrev pub parents_in : Edit → List ℕ
 parents_in (Make_directory d x i) = d ∷ []
 parents_in (Make_file d x i) = d ∷ []
 parents_in (Make_fixed d x fixed i) = d ∷ []
 parents_in (Name_file d x n) = d ∷ []
 parents_in (Move d x e y n replaced) = e ∷ []
+parents_in (Swap d x n e y m) = d ∷ e ∷ []
 parents_in _ = []
 
 -- of what kind the changes are after one more
@@ -280,7 +293,9 @@ form_after chosen (Name_file d x m) n form = listed_at d n form
 form_after chosen (Unname_file d x m) n form = listed_at d n form
 form_after chosen (Unname_directory d x m) n form = listed_at d n form
 form_after chosen (Move d x e y m replaced) n form = listed_at e n (listed_at d n form)
+form_after chosen (Swap d x m e y q) n form = listed_at e n (listed_at d n form)
 form_after chosen (Put_bytes m place bytes before) n form = if n == m then filed form else form
+form_after chosen (Wipe m place count) n form = if n == m then filed form else form
 form_after chosen (Cut m before after) n form = if n == m then filed form else form
 form_after chosen (Take p count) n form = if n == p then piped form else form
 form_after chosen (Append p bytes) n form = if n == p then piped form else form
@@ -303,6 +318,7 @@ made_after chosen _ n made = made
 abbrev pub blocks_by : ℕ → Edit → List ℕ
 blocks_by n (Put_bytes m place bytes before) =
     if n == m then blocks place (length bytes) else []
+blocks_by n (Wipe m place count) = if n == m then blocks place count else []
 blocks_by n _ = []
 
 -- the blocks into which bytes were written before an edit: a new object has none, nor has a directory
@@ -321,6 +337,7 @@ numbers_kept chosen (Name_file d x m) n bs = kept_beside d n bs
 numbers_kept chosen (Unname_file d x m) n bs = kept_beside d n bs
 numbers_kept chosen (Unname_directory d x m) n bs = kept_beside d n bs
 numbers_kept chosen (Move d x e y m replaced) n bs = kept_beside e n (kept_beside d n bs)
+numbers_kept chosen (Swap d x m e y q) n bs = kept_beside e n (kept_beside d n bs)
 numbers_kept chosen _ n bs = bs
 
 -- A pipe shows with these changes, which has so many bytes, and had all that they take.

@@ -333,8 +333,8 @@ fn put_back_in(contents: &mut Contents, name: &Name, given: Option<Option<Num>>)
     }
 }
 
-// The changes of a directory with one name.
-fn first_name(
+/// The changes of a directory with one name.
+pub(crate) fn first_name(
     heap: Heap,
     fresh: bool,
     name: Name,

@@ -6,6 +6,7 @@ ghost use Rattle.ids.specs.declared.limits.TheConstants.{LARGEST_FILE};
 ghost use Rattle.notes.specs.Patches.{kept_at, net_at, numbers_in};
 ghost use Rattle.notes.specs.Notes.{AreNamed, At, IsCut, IsGiven, IsGone, IsMade, IsNamed};
 ghost use Rattle.notes.specs.Notes.{IsAppended, IsPiped, IsPutBack, IsTaken, IsUnnamed, IsWritten};
+ghost use Rattle.notes.specs.Notes.{IsGivenOver, IsTakenBack, IsWiped};
 ghost use Rattle.notes.specs.Notes.{SameInodes};
 
 use crate::change::{Contents, Former, InodeChange};
@@ -156,6 +157,39 @@ impl Inodes {
         }
     }
 
+    /// Notes that a name of a directory gives this number, where there is a place for it, and gives
+    /// what the note took the place of. Refused memory changes nothing that shows.
+    pub(crate) fn note_given(
+        &mut self,
+        dir: Num,
+        name: Name,
+        num: Num,
+    ) -> Result<Former, AllocError>
+        requires { kept_at self.old dir ≢ None }
+        ensures ok { IfOk result
+            (λ former. At dir (IsGivenOver name num former) self.old self.new) }
+        ensures err { OnErr result (SameInodes self.old self.new) }
+    {
+        let heap = self.heap;
+        match self.each.get_mut(&dir) {
+            Some(change) => change.note_given(heap, name, num),
+            None => unreachable!(),
+        }
+    }
+
+    /// Takes the note of a name back that gives a number, in its place, with its room. It takes no
+    /// memory.
+    pub(crate) fn take_back(&mut self, dir: Num, name: &Name, former: Former)
+        requires place { kept_at self.old dir ≢ None }
+        requires room { 0 < (net_at self.old dir).promised }
+        ensures { At dir (IsTakenBack name.now former) self.old self.new }
+    {
+        match self.each.get_mut(&dir) {
+            Some(change) => change.take_back(name, former),
+            None => unreachable!(),
+        }
+    }
+
     // Takes the note of a name back, in its place. It takes no memory.
     fn put_back(&mut self, dir: Num, name: &Name, former: Former)
         requires { kept_at self.old dir ≢ None }
@@ -178,6 +212,21 @@ impl Inodes {
         let heap = self.heap;
         match self.each.get_mut(&file) {
             Some(change) => change.write(heap, offset, bytes),
+            None => unreachable!(),
+        }
+    }
+
+    /// Notes that bytes of a file become zero, where there is a place for it. Refused memory changes
+    /// nothing that shows.
+    pub(crate) fn wipe(&mut self, file: Num, offset: usize, count: usize) -> Result<(), AllocError>
+        requires place { kept_at self.old file ≢ None }
+        requires small { offset + count ≤ LARGEST_FILE }
+        ensures ok { OnOk result (At file (IsWiped offset count) self.old self.new) }
+        ensures err { OnErr result (SameInodes self.old self.new) }
+    {
+        let heap = self.heap;
+        match self.each.get_mut(&file) {
+            Some(change) => change.wipe(heap, offset, count),
             None => unreachable!(),
         }
     }

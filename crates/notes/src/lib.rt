@@ -7,6 +7,7 @@
 
 mod change;
 mod edits;
+mod exchanging;
 mod inodes;
 mod log;
 mod new_object;
@@ -16,6 +17,7 @@ mod overlay;
 mod patches;
 mod pipes;
 mod slots;
+mod wiping;
 
 pub use change::{Contents, InodeChange, Made};
 pub use edits::{at_start, end_of, inode_replaced, is_last, number};
@@ -25,7 +27,7 @@ pub use new_rights::NewRights;
 pub use opening::{Opening, Openings};
 pub use overlay::{
     bytes_over, front_of, front_over, given_over, is_empty_over, kind_over, len_over, names_over,
-    new_ends, pipe_len_of, pipe_len_over, target_over,
+    new_ends, passed_over, pipe_len_of, pipe_len_over, target_over,
 };
 pub use patches::Patches;
 pub use slots::Slots;

@@ -1,8 +1,9 @@
 // What an inode is like with a transaction's changes of its contents on top.
-ghost use Rattle.std.specs.Prelude.{◌≡◌, ◌≤◌, IfOk, IsSome, Option, drop};
+ghost use Rattle.std.specs.Prelude.{◌≡◌, ◌+◌, ◌≤◌, IfOk, IsSome, Option, drop};
 ghost use Rattle.std.specs.Prelude.{false, length, option_copied, take};
-ghost use Rattle.ids.specs.declared.limits.TheConstants.{TARGET_LIMIT};
+ghost use Rattle.ids.specs.declared.limits.TheConstants.{LARGEST_FILE, TARGET_LIMIT};
 ghost use Rattle.model.specs.FiniteMap.{get, keys};
+ghost use Rattle.model.specs.Holes.{alike_from};
 ghost use Rattle.model.specs.Paths.{is_empty};
 ghost use Rattle.model.specs.State.{Inode, file_of_inode, kind, mapped};
 ghost use Rattle.model.specs.State.{Pipe as A_pipe, names_of_inode, pipe_of_inode, target_of_inode};
@@ -145,6 +146,38 @@ pub fn bytes_over(
             is_fresh: false,
             bytes,
         } => bytes.read(heap, stored, offset, count),
+    }
+}
+
+/// How many blocks from one on, so many at most, are holes, or are none, with changes of the contents
+/// of the file, which is this one below them. `AllocError` where memory is refused.
+pub fn passed_over(
+    heap: Heap,
+    contents: &Contents,
+    stored: &FileData,
+    holes: bool,
+    blocks: (usize, usize),
+) -> Result<usize, AllocError>
+    requires { blocks.0 + blocks.1 ≤ LARGEST_FILE }
+    ensures value { IfOk result (λ passed. (o : Option Inode) → file_of_inode o ≡ stored.now.bytes
+        → passed ≡ alike_from holes (file_of_inode (patched contents.now o)) blocks.0 blocks.1) }
+    ensures small { IfOk result (λ passed. passed ≤ blocks.1) }
+{
+    let (first, count) = blocks;
+    let none = FileData::new(heap);
+    match contents {
+        Contents::Same => Ok(stored.pass(holes, first, count)),
+        Contents::Names { .. } => Ok(none.pass(holes, first, count)),
+        Contents::Pipe { .. } => Ok(none.pass(holes, first, count)),
+        Contents::Fixed(_) => Ok(none.pass(holes, first, count)),
+        Contents::Bytes {
+            is_fresh: true,
+            bytes,
+        } => bytes.pass(heap, &none, holes, first, count),
+        Contents::Bytes {
+            is_fresh: false,
+            bytes,
+        } => bytes.pass(heap, stored, holes, first, count),
     }
 }
 

@@ -185,6 +185,7 @@ impl Patches {
                 drop(bytes);
                 noted
             }
+            Edit::Wipe { file, offset, count } => self.wipe(file, offset, count),
             Edit::Cut { file, length, .. } => self.cut(file, length),
             Edit::Take { pipe, count } => self.take(pipe, count),
             Edit::Append { pipe, bytes } => {
@@ -245,7 +246,7 @@ impl Patches {
                 drop(old_name);
                 noted
             }
-            _ => unreachable!(),
+            other => self.exchange(chosen, other),
         }
     }
 

@@ -10,7 +10,7 @@ use Rattle.model.specs.Plan.{◌>>=◌, ◌>>◌, refuse_if, or_refuse}
 use Rattle.model.specs.Walks.{Place, Last, is_directory, parsed, walk, last_of}
 use Rattle.model.specs.Changes.{Name_file, Make_fixed, Replaced, Over_nothing}
 use Rattle.model.specs.Calls.{Done}
-use Rattle.model.specs.Plans.{Change, changed, absent, moved, replaced_by_name, stated}
+use Rattle.model.specs.Plans.{Change, changed, absent, moved, replaced_by_name, stated, swapped}
 use Rattle.model.specs.Paths.{is_empty, is_below}
 
 -- the place that a path of at most so many bytes leads to, and where its last name stands
@@ -81,6 +81,18 @@ rename_paths root from to = do
   refuse_if (is_directory what && is_below from to) EINVAL
   onto ← last_of root EBUSY to
   moved at what onto onto.found
+
+-- an exchange, after both paths are read
+abbrev pub exchange_paths : ℕ → List Name → List Name → Plan Change
+exchange_paths root from to = do
+  refuse_if (is_empty from || is_empty to) EBUSY
+  at ← last_of root EBUSY from
+  onto ← last_of root EBUSY to
+  what ← or_refuse ENOENT at.found
+  other ← or_refuse ENOENT onto.found
+  refuse_if (is_directory what && is_below from to) EINVAL
+  refuse_if (is_directory other && is_below to from) EINVAL
+  swapped at what onto other
 
 -- what loses its name to another
 abbrev pub replaced_over : Place → Place → Plan Replaced

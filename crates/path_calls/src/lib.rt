@@ -8,6 +8,7 @@
 
 mod asking;
 mod change;
+mod exchange;
 mod fixed;
 mod paths;
 mod rights;
@@ -16,6 +17,7 @@ mod steps;
 
 pub use asking::size;
 pub use change::{Change, Edits, changed, changed_by, unchanged};
+pub use exchange::exchange;
 pub use fixed::{mknod, readlink, symlink};
 pub use paths::{cut_to, link, list, mkdir, rename, rmdir, truncate, unlink};
 pub use rights::{chmod, chown, set_owner, set_permissions};

@@ -12,7 +12,7 @@ ghost use Rattle.plain_kernel.specs.Counts.{given_by};
 use crate::descriptions::Descriptions;
 use crate::holders::Holders;
 use crate::inode::{
-    given_in, is_empty_in, kind_in, names_in, pipe_in, read_in, size_in, target_in,
+    given_in, is_empty_in, kind_in, names_in, passed_in, pipe_in, read_in, size_in, target_in,
 };
 use crate::inodes::Inodes;
 use crate::table::Table;
@@ -287,6 +287,17 @@ impl Look for PlainKernel {
         count: u32,
     ) -> Result<Bytes, AllocError> {
         read_in(heap, self.inodes.get(file), offset, count)
+    }
+
+    fn pass(
+        &self,
+        heap: Heap,
+        file: Num,
+        holes: bool,
+        first: u32,
+        count: u32,
+    ) -> Result<u32, AllocError> {
+        Ok(passed_in(heap, self.inodes.get(file), holes, first, count))
     }
 
     fn links(&self, file: Num) -> Result<u32, AllocError> {

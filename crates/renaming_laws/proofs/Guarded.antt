@@ -1,17 +1,17 @@
 -- Of all calls only the status of the path `/` tells the root, and no edit gives it to a name or to a description.
-use Rattle.std.proofs.Common.{◌≡◌, ◌≢◌, ◌⊎◌, ℕ, ◌+◌, Bool, true, false, not, ◌&&◌, ◌||◌, nat_lt, nat_le, ◌==◌, if◌then◌else◌, ℤ, pos, negsuc, ◌+ℤ◌, List, [], ◌∷◌, ◌++◌, map, length, min, Option, Some, None, Result, Ok, Err, IfOk, refl, sym, ap, subst, ◌∙◌, inl, inr, eqb-true}
+use Rattle.std.proofs.Common.{◌≡◌, ◌≢◌, ◌⊎◌, ℕ, ◌+◌, ◌-◌, Bool, true, false, not, ◌&&◌, ◌||◌, nat_lt, nat_le, ◌==◌, if◌then◌else◌, ℤ, pos, negsuc, ◌+ℤ◌, List, [], ◌∷◌, ◌++◌, map, length, min, Option, Some, None, Result, Ok, Err, IfOk, refl, sym, ap, subst, ◌∙◌, inl, inr, eqb-true}
 use Rattle.std.specs.List.{AllByRecursion, list_any}
 use Rattle.std.specs.Cmp.{nat_cmp_total}
 use Rattle.ids.specs.Flags.{is_reading, is_writing, is_creating, is_exclusive, is_truncating}
 use Rattle.model.specs.FiniteMap.{get, entries}
 use Rattle.model.specs.State.{Name, Kind, A_file, A_directory, A_pipe, A_link, A_fifo, A_socket, Kernel, Description, mapped, kind_of, rights_of, names_of, entry_of}
-use Rattle.model.specs.Plan.{Errno, EAGAIN, EBADF, EBUSY, EEXIST, EFBIG, EINVAL, EISDIR, ELOOP, ENXIO, ENAMETOOLONG, ENOENT, ENOTDIR, ENOTEMPTY, EPERM, EPIPE, ESPIPE, Look, List_names, Read_pipe, Count_ends, Find_offset, Read_file, Fit, Plan, Give, given, ◌>>=◌, ◌>>◌, ask, refuse_if, or_refuse, answer}
+use Rattle.model.specs.Plan.{Errno, EAGAIN, EBADF, EBUSY, EEXIST, EFBIG, EINVAL, EISDIR, ELOOP, ENXIO, ENAMETOOLONG, ENOENT, ENOTDIR, ENOTEMPTY, EPERM, EPIPE, ESPIPE, Look, List_names, Measure, Read_pipe, Count_ends, Find_offset, Read_file, Fit, Plan, Give, given, ◌>>=◌, ◌>>◌, ask, refuse_if, or_refuse, answer}
 use Rattle.model.specs.Paths.{is_empty, is_below, is_no_name, in_front, pieces, with_first, names_in, names_behind, absolute_names, path_names}
 use Rattle.model.specs.Limits.{name_limit}
 use Rattle.model.specs.Walks.{told, parsed, look, walk, Last, last, last_of, Place, is_directory, is_link}
-use Rattle.model.specs.Changes.{There, Open_inode, Set_offset, process_of}
-use Rattle.model.specs.Calls.{OpenFlags, Call, Open, Close, Read, Pread, Write, Pwrite, Lseek, Ftruncate, Truncate, Stat, Fstat, Link, Unlink, Rename, Mkdir, Rmdir, List_directory, Symlink, Readlink, Lstat, Mknod, Chmod, Chown, Fchmod, Fchown, Dup, Dup2, Open_pipe, Fork, Exit, Descriptor, Bytes, Slot, Own, slot_of, own}
-use Rattle.model.specs.Plans.{Change, changed, free, first_of_free, slot, is_pipe, status, is_special, target_limit, mode, cut_to, opened, read_pipe, read_some, place_to_write, write_some, offset_named, sought, base, moved, replaced_by_name, absent, duplicated, piped, forked, most_moved, whole_write, most_processes, open_limit}
+use Rattle.model.specs.Changes.{There, Edit, Swap, Wipe, Cut, Open_inode, Set_offset, process_of}
+use Rattle.model.specs.Calls.{OpenFlags, Call, Open, Close, Read, Pread, Write, Pwrite, Lseek, Ftruncate, Truncate, Stat, Fstat, Link, Unlink, Rename, Exchange, Fallocate, Space, Grow, Keep, Punch, Mkdir, Rmdir, List_directory, Symlink, Readlink, Lstat, Mknod, Chmod, Chown, Fchmod, Fchown, Dup, Dup2, Open_pipe, Fork, Exit, Done, Descriptor, Bytes, Slot, Own, slot_of, own}
+use Rattle.model.specs.Plans.{Change, changed, free, first_of_free, slot, is_pipe, status, is_special, target_limit, mode, cut_to, opened, read_pipe, read_some, place_to_write, write_some, offset_named, sought, length_named, aimed, spaced, swapped, moved, replaced_by_name, absent, duplicated, piped, forked, most_moved, whole_write, most_processes, open_limit}
 use Rattle.model.specs.Steps.{outcome}
 use Rattle.model.proofs.Laws.{all_entries}
 use Rattle.call_laws.proofs.Laws.{after_bind, allowed, either_given, weaken, whatever, not_none, some_same}
@@ -170,6 +170,10 @@ module _ (root : ℕ) (k : Kernel) (apart : IsApart root k) where
     offset_fine bytes d place true = record { tells = inl tt; gives = tt }
     offset_fine bytes d place false = record { tells = inl tt; gives = (tt, tt) }
 
+    edit_fine : (b : Bool) (e : Edit) → GivesNot root e → Fine (record { reply = Done; edits = if b then e ∷ [] else [] })
+    edit_fine true e h = record { tells = inl tt; gives = (h, tt) }
+    edit_fine false e h = record { tells = inl tt; gives = tt }
+
     read_fine : (it : Slot) (count : ℕ) → IfOk (given k (read_some it count)) Fine
     read_fine it count = either (is_pipe it.kind) _ _
         (read_pipe_fine it.inode (answer k (Read_pipe it.inode count)))
@@ -192,6 +196,14 @@ module _ (root : ℕ) (k : Kernel) (apart : IsApart root k) where
     moved_fine from what to (Some old) other = either (what.0 == old.0) _ _ (record { tells = inl tt; gives = tt })
         (unless (not (is_directory what) && is_directory old) EISDIR _ (unless (is_directory what && not (is_directory old)) ENOTDIR _
         (then_whatever (replaced_by_name old.0 (is_directory old)) _ (λ replaced. record { tells = inl tt; gives = (other, tt) }))))
+
+    spaced_fine : (n at count : ℕ) (space : Space) → IfOk (given k (spaced n at count space)) Fine
+    spaced_fine n at count Grow = edit_fine (nat_lt (answer k (Measure n)) (at + count)) (Cut n (answer k (Measure n)) (at + count)) tt
+    spaced_fine n at count Keep = record { tells = inl tt; gives = tt }
+    spaced_fine n at count Punch = edit_fine (nat_lt at (answer k (Measure n))) (Wipe n at (min count (answer k (Measure n) - at))) tt
+
+    swapped_fine : (at : Last) (what : Place) (onto : Last) (old : Place) → what.0 ≢ root → old.0 ≢ root → IfOk (given k (swapped at what onto old)) Fine
+    swapped_fine at what onto old other other_too = either (what.0 == old.0) _ _ (record { tells = inl tt; gives = tt }) (record { tells = inl tt; gives = ((other, other_too), tt) })
 
     found_fine : (e : Errno) (found : Option Place) (p : Place → Plan Change) → IsOther root found → ((place : Place) → place.0 ≢ root → IfOk (given k (p place)) Fine) → IfOk (given k (or_refuse e found >>= p)) Fine
     unfolding IsOther
@@ -246,7 +258,10 @@ module _ (root : ℕ) (k : Kernel) (apart : IsApart root k) where
       unless (Pwrite fd bytes offset) (not it.writing) EBADF _ (unless (Pwrite fd bytes offset) (is_pipe it.kind) ESPIPE _ (then_whatever (Pwrite fd bytes offset) (or_refuse EINVAL (offset_named offset)) _ (λ at.
       either (Pwrite fd bytes offset) (is_empty bytes) _ _ (record { tells = inl tt; gives = tt }) (unless (Pwrite fd bytes offset) (nat_le k.bounds.file_bytes at) EFBIG _ (record { tells = inl tt; gives = (tt, tt) }))))))
   call_guarded is slots pid (Lseek fd move whence) = then_whatever (Lseek fd move whence) (slot (own k pid (Lseek fd move whence)) fd) _ (λ it.
-      unless (Lseek fd move whence) (is_pipe it.kind) ESPIPE _ (then_whatever (Lseek fd move whence) (base it whence) _ (λ place. sought_fine (Lseek fd move whence) k.bounds.file_bytes it (pos place +ℤ move))))
+      unless (Lseek fd move whence) (is_pipe it.kind) ESPIPE _ (then_whatever (Lseek fd move whence) (aimed it move whence) _ (λ sum. sought_fine (Lseek fd move whence) k.bounds.file_bytes it sum)))
+  call_guarded is slots pid (Fallocate fd offset len space) = then_whatever (Fallocate fd offset len space) (slot (own k pid (Fallocate fd offset len space)) fd) _ (λ it.
+      then_whatever (Fallocate fd offset len space) (or_refuse EINVAL (offset_named offset)) _ (λ at. then_whatever (Fallocate fd offset len space) (or_refuse EINVAL (length_named len)) _ (λ count.
+      unless (Fallocate fd offset len space) (not it.writing) EBADF _ (unless (Fallocate fd offset len space) (is_pipe it.kind) ESPIPE _ (unless (Fallocate fd offset len space) (nat_lt k.bounds.file_bytes (at + count)) EFBIG _ (spaced_fine (Fallocate fd offset len space) it.inode at count space))))))
   call_guarded is slots pid (Ftruncate fd len) = then_whatever (Ftruncate fd len) (slot (own k pid (Ftruncate fd len)) fd) _ (λ it.
       unless (Ftruncate fd len) (not it.writing) EBADF _ (unless (Ftruncate fd len) (is_pipe it.kind) EINVAL _ (unless (Ftruncate fd len) (nat_lt k.bounds.file_bytes len) EFBIG _ (record { tells = inl tt; gives = (tt, tt) }))))
   call_guarded is slots pid (Truncate path len) = then_whatever (Truncate path len) (parsed k.bounds.path_bytes path) _ (λ names. then_whatever (Truncate path len) (walk (k.root, Some A_directory) names) _ (λ place.
@@ -265,6 +280,12 @@ module _ (root : ℕ) (k : Kernel) (apart : IsApart root k) where
       (then_given (Rename old path) (λ at. IsOther root at.found) (last_of k.root EBUSY from) _ (subst (λ n. IfOk (given k (last_of n EBUSY from)) (λ at. IsOther root at.found)) (sym is) (last_of_other EBUSY from)) (λ at other.
       found_fine (Rename old path) ENOENT at.found _ other (λ what apart. unless (Rename old path) (is_directory what && is_below from to) EINVAL _
       (then_whatever (Rename old path) (last_of k.root EBUSY to) _ (λ onto. moved_fine (Rename old path) at what onto onto.found apart)))))))
+  call_guarded is slots pid (Exchange old path) = then_whatever (Exchange old path) (parsed k.bounds.path_bytes old) _ (λ from. then_whatever (Exchange old path) (parsed k.bounds.path_bytes path) _ (λ to. unless (Exchange old path) (is_empty from || is_empty to) EBUSY _
+      (then_given (Exchange old path) (λ at. IsOther root at.found) (last_of k.root EBUSY from) _ (subst (λ n. IfOk (given k (last_of n EBUSY from)) (λ at. IsOther root at.found)) (sym is) (last_of_other EBUSY from)) (λ at other.
+      then_given (Exchange old path) (λ onto. IsOther root onto.found) (last_of k.root EBUSY to) _ (subst (λ n. IfOk (given k (last_of n EBUSY to)) (λ onto. IsOther root onto.found)) (sym is) (last_of_other EBUSY to)) (λ onto other_too.
+      found_fine (Exchange old path) ENOENT at.found _ other (λ what apart. found_fine (Exchange old path) ENOENT onto.found _ other_too (λ old_place apart_too.
+      unless (Exchange old path) (is_directory what && is_below from to) EINVAL _ (unless (Exchange old path) (is_directory old_place && is_below to from) EINVAL _
+      (swapped_fine (Exchange old path) at what onto old_place apart apart_too)))))))))
   call_guarded is slots pid (Mkdir path) = then_whatever (Mkdir path) (parsed k.bounds.path_bytes path) _ (λ names. then_whatever (Mkdir path) (last_of k.root EEXIST names) _ (λ at. then_whatever (Mkdir path) (absent at.found) _ (λ _. record { tells = inl tt; gives = (tt, tt) })))
   call_guarded is slots pid (Rmdir path) = then_whatever (Rmdir path) (parsed k.bounds.path_bytes path) _ (λ names. then_whatever (Rmdir path) (last_of k.root EBUSY names) _ (λ at. then_whatever (Rmdir path) (or_refuse ENOENT at.found) _ (λ what.
       unless (Rmdir path) (not (is_directory what)) ENOTDIR _ (unless (Rmdir path) (not (is_empty (answer k (List_names what.0)))) ENOTEMPTY _ (record { tells = inl tt; gives = (tt, tt) })))))

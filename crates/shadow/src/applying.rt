@@ -14,7 +14,7 @@ ghost use Rattle.notes.specs.Log.{effect};
 ghost use Rattle.notes.specs.Steps.{CanEdit, IsFirst, IsNaming, TakesNoMemory, unnaming};
 ghost use Rattle.notes.specs.declared.change.Made.{Made as What};
 
-use crate::claiming::parent_of;
+use crate::claiming::parents_of;
 use crate::closing::free;
 use crate::laying::pipe_len;
 use crate::slotting::room_for;
@@ -41,12 +41,12 @@ impl Stable {
         ensures err { OnErr result (self.new.state ≡ self.old.state) }
     {
         let heap = *edits.allocator();
-        let parent = parent_of(edits.as_slice());
+        let parents = parents_of(edits.as_slice());
         let chosen = self.claim(heap, edits.as_slice())?;
         match self.perform(chosen.as_slice(), edits) {
             Ok(()) => Ok(chosen),
             Err(AllocError) => {
-                self.release_claims(chosen.as_slice(), parent);
+                self.release_claims(chosen.as_slice(), parents);
                 drop(chosen);
                 Err(AllocError)
             }
@@ -180,6 +180,11 @@ impl Stable {
         // For the proof: the state is tidied before the change.
         self.state_is_tidied();
         match edit {
+            Edit::Wipe {
+                file,
+                offset,
+                count,
+            } => self.wipe(file, offset as usize, count as usize),
             Edit::Cut { file, length, .. } => self.cut(file, length as usize),
             Edit::Take { pipe, count } => self.take(pipe, count as usize),
             Edit::Append { pipe, bytes } => {
@@ -235,7 +240,7 @@ impl Stable {
                 self.rename(from, &old_name, to, new_name, inode, replaced);
                 drop(old_name);
             }
-            _ => unreachable!(),
+            other => self.exchange(chosen, other),
         }
     }
 

@@ -9,6 +9,7 @@ mod closing;
 mod counting;
 mod laying;
 mod processes;
+mod ranging;
 mod reslotting;
 mod shadow;
 mod slotting;

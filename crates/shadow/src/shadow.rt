@@ -12,7 +12,7 @@ ghost use Rattle.shadow.specs.Claims.{claimed_by};
 ghost use Rattle.notes.specs.Log.{effect};
 ghost use Rattle.notes.specs.Steps.{CanEdit};
 
-use crate::claiming::parent_of;
+use crate::claiming::parents_of;
 use crate::closing::{close_former, close_new, free_all};
 use crate::laying::{lay_inodes_with_rights, lay_openings};
 use crate::reslotting::lay_slots;
@@ -80,7 +80,7 @@ impl Shadow {
     {
         let heap = *edits.allocator();
         let logged = Snapshot::of(&edits);
-        let parent = parent_of(edits.as_slice());
+        let parents = parents_of(edits.as_slice());
         let chosen = stable.claim(heap, edits.as_slice())?;
         match self.patches.note(chosen.as_slice(), edits) {
             Ok(()) => {
@@ -88,7 +88,7 @@ impl Shadow {
                 Ok(chosen)
             }
             Err(AllocError) => {
-                stable.release_claims(chosen.as_slice(), parent);
+                stable.release_claims(chosen.as_slice(), parents);
                 drop(chosen);
                 Err(AllocError)
             }

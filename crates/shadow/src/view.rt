@@ -1,10 +1,12 @@
 // What a process sees.
-ghost use Rattle.std.specs.Prelude.{◌≡◌, ◌≤◌, IfOk, IfSome, drop};
+ghost use Rattle.std.specs.Prelude.{◌≡◌, ◌+◌, ◌≤◌, IfOk, IfSome, drop};
+ghost use Rattle.ids.specs.declared.limits.TheConstants.{LARGEST_FILE};
 ghost use Rattle.std.specs.Prelude.{if◌then◌else◌, length, option_copied, option_map, take};
 ghost use Rattle.ids.specs.declared.limits.TheConstants.{TARGET_LIMIT};
 ghost use Rattle.model.specs.FiniteMap.{entries, get};
 ghost use Rattle.model.specs.State.{file_of, kind_of, names_of, pipe_of, target_of};
 ghost use Rattle.model.specs.Changes.{holders, process_of};
+ghost use Rattle.model.specs.Holes.{alike_from};
 ghost use Rattle.model.specs.Calls.{slot_of};
 ghost use Rattle.model.specs.Effects.{all_done};
 ghost use Rattle.fdtable.specs.Lowest.{IsLowest};
@@ -26,7 +28,7 @@ use ids::{Bytes, DESCRIPTORS, Fd, Kind, Name, NameList, Num, PIPE_CAPACITY, Pid,
 use look::Look;
 use notes::{
     InodeChange, bytes_over, front_of, front_over, given_over, is_empty_over, kind_over, len_over,
-    names_over, new_ends, pipe_len_of, pipe_len_over, target_over,
+    names_over, new_ends, passed_over, pipe_len_of, pipe_len_over, target_over,
 };
 use objects::{Description, FileData};
 use std::alloc::AllocError;
@@ -177,6 +179,27 @@ impl<'a> View<'a> {
         match change(self.shadow, file) {
             Some(change) => bytes_over(heap, &change.contents, stored, offset, count),
             None => stored.read_at(heap, offset, count),
+        }
+    }
+
+    // How many blocks of a file from one on, so many at most, are holes, or are none.
+    fn passed(
+        &self,
+        heap: Heap,
+        file: Num,
+        holes: bool,
+        blocks: (usize, usize),
+    ) -> Result<usize, AllocError>
+        requires { blocks.0 + blocks.1 ≤ LARGEST_FILE }
+        ensures value { IfOk result (λ passed. passed
+            ≡ alike_from holes (file_of self.now.state file) blocks.0 blocks.1) }
+        ensures small { IfOk result (λ passed. passed ≤ blocks.1) }
+    {
+        let none = FileData::new(heap);
+        let stored = self.stable.file(file, &none);
+        match change(self.shadow, file) {
+            Some(change) => passed_over(heap, &change.contents, stored, holes, blocks),
+            None => Ok(stored.pass(holes, blocks.0, blocks.1)),
         }
     }
 
@@ -412,6 +435,18 @@ impl<'a> Look for View<'a> {
     ) -> Result<Bytes, AllocError> {
         small(self.len(file) as u128)?;
         self.bytes(heap, file, offset as usize, count as usize)
+    }
+
+    fn pass(
+        &self,
+        heap: Heap,
+        file: Num,
+        holes: bool,
+        first: u32,
+        count: u32,
+    ) -> Result<u32, AllocError> {
+        let passed = self.passed(heap, file, holes, (first as usize, count as usize))?;
+        Ok(passed as u32)
     }
 
     fn links(&self, file: Num) -> Result<u32, AllocError> {

@@ -28,6 +28,8 @@ mod errors_of_rights;
 #[cfg(test)]
 mod errors_of_truncates;
 #[cfg(test)]
+mod exchanges;
+#[cfg(test)]
 mod fifos;
 #[cfg(test)]
 mod files;
@@ -79,6 +81,8 @@ mod paths;
 mod pipes;
 #[cfg(test)]
 mod processes;
+#[cfg(test)]
+mod ranges;
 #[cfg(test)]
 mod refused;
 #[cfg(test)]

@@ -10,6 +10,7 @@ use crate::errors_at_offsets::ERRORS_AT_OFFSETS;
 use crate::errors_of_links::ERRORS_OF_LINKS;
 use crate::errors_of_rights::ERRORS_OF_RIGHTS;
 use crate::errors_of_truncates::ERRORS_OF_TRUNCATES;
+use crate::exchanges::EXCHANGES;
 use crate::fifos::FIFOS;
 use crate::files::FILES;
 use crate::freed::FREED;
@@ -18,6 +19,7 @@ use crate::links::LINKS;
 use crate::names_of_truncates::NAMES_OF_TRUNCATES;
 use crate::pipes::{HALVES, PIPES};
 use crate::processes::{ENDED, PROCESSES};
+use crate::ranges::RANGES;
 use crate::renamed_files::RENAMED_FILES;
 use crate::renames::RENAMES;
 use crate::rights::RIGHTS;
@@ -28,7 +30,7 @@ use crate::transactions::TRANSACTIONS;
 use crate::trees::TREES;
 
 // How many kinds of rows there are.
-pub(crate) const KINDS: usize = 28;
+pub(crate) const KINDS: usize = 30;
 
 // The rows of a kind, whose number is below `KINDS`. The functions that go over all of them do so in
 // a loop, since the proof of a call for each kind is long.
@@ -61,6 +63,8 @@ pub(crate) fn rows_of(kind: usize) -> &'static [Row] {
         24 => &RIGHTS,
         25 => &KEPT_RIGHTS,
         26 => &ERRORS_OF_RIGHTS,
-        _ => &BESIDE_RIGHTS,
+        27 => &BESIDE_RIGHTS,
+        28 => &EXCHANGES,
+        _ => &RANGES,
     }
 }

@@ -1,14 +1,14 @@
--- The edits of calls on contents fit: read, pread, write, pwrite, lseek, ftruncate and truncate.
-use Rattle.std.proofs.Common.{◌≢◌, min, eq-eqb, ◌≡◌, ℕ, ◌+◌, ◌-◌, ◌≤◌, ℤ, pos, negsuc, Bool, true, false, ◌&&◌, List, [], ◌∷◌, ◌++◌, map, length, take, if◌then◌else◌, Some, IfOk, refl, sym, ◌∙◌, arith, ◌==◌, nat_lt, nat_le, length-take}
+-- The edits of calls on contents fit: read, pread, write, pwrite, lseek, ftruncate, truncate and fallocate.
+use Rattle.std.proofs.Common.{◌≢◌, min, eq-eqb, ◌≡◌, ℕ, ◌+◌, ◌-◌, ◌≤◌, ℤ, pos, negsuc, Bool, true, false, ◌&&◌, List, [], ◌∷◌, ◌++◌, map, length, take, if◌then◌else◌, Some, IfOk, refl, sym, ◌∙◌, arith, ◌==◌, nat_lt, nat_le, length-take, ltb-true}
 use Rattle.std.specs.List.{AllByRecursion}
 use Rattle.std.proofs.lemmas.Bool.{false≢true}
 use Rattle.model.specs.Limits.{capacity}
 use Rattle.model.specs.State.{A_file, A_pipe, Kernel, kind_of, pipe_of}
 use Rattle.model.specs.Aspects.{Size, Block, Offset}
 use Rattle.model.specs.Plan.{Plan, given, ◌>>=◌, ◌>>◌, ask, answer, blocks, Measure, Count_ends, Fit, refuse_if, EINVAL, EAGAIN, EPIPE, EFBIG}
-use Rattle.model.specs.Changes.{Put_bytes, Cut, Append, Set_offset, marks, applied}
-use Rattle.model.specs.Calls.{Answer, Done, Count, New_place, Bytes, Slot}
-use Rattle.model.specs.Plans.{Change, changed, unchanged, is_pipe, read_pipe, read_some, place_to_write, write_some, room, write_from, sought, cut_to}
+use Rattle.model.specs.Changes.{Put_bytes, Wipe, Cut, Append, Set_offset, marks, applied}
+use Rattle.model.specs.Calls.{Space, Grow, Keep, Punch, Answer, Done, Count, New_place, Bytes, Slot}
+use Rattle.model.specs.Plans.{Change, changed, unchanged, is_pipe, read_pipe, read_some, place_to_write, write_some, room, write_from, sought, cut_to, spaced}
 use Rattle.model.proofs.Laws.{append-all}
 use Rattle.call_laws.specs.Objects.{IsThere}
 use Rattle.call_laws.specs.WellFormed.{WellFormed}
@@ -126,3 +126,24 @@ module _ (k : Kernel) (well : WellFormed k) (pid : ℕ) (alive : IsAlive k pid) 
 
   pub truncated : (s : Slot) (len : ℕ) → IsOpen k s → is_pipe s.kind ≡ false → IfOk (given k (cut_to s.inode len >>= (λ cut. changed Done cut))) Fine
   truncated s len held file = cut_fits s.inode len (sym held.kind ∙ kind_of_file s.kind held.can_be_opened file)
+
+  -- a range of a file
+  pub spaced_at : (n at count : ℕ) (space : Space) → kind_of k n ≡ Some A_file → IfOk (given k (spaced n at count space)) Fine
+  spaced_at n at count Grow is = by_test (nat_lt (answer k (Measure n)) (at + count))
+    where
+      by_test : (b : Bool) → Fine (record { reply = Done; edits = if b then Cut n (answer k (Measure n)) (at + count) ∷ [] else [] })
+      by_test true = record { fits = λ can. ((is, refl), tt); by = (tt, tt); there = append-all (IsThere k) (marks (Cut n (answer k (Measure n)) (at + count))) [] (cut_there n (answer k (Measure n)) (at + count) is) tt }
+      by_test false = unchanged_fits k pid inside chosen Done
+  spaced_at n at count Keep is = unchanged_fits k pid inside chosen Done
+  spaced_at n at count Punch is = by_test (nat_lt at (answer k (Measure n))) refl
+    where
+      by_test : (b : Bool) → nat_lt at (answer k (Measure n)) ≡ b → Fine (record { reply = Done; edits = if b then Wipe n at (min count (answer k (Measure n) - at)) ∷ [] else [] })
+      by_test true e = record {
+        fits = λ can. ((is, omega (arith, ltb-true at (answer k (Measure n)) e)), tt);
+        by = (tt, tt);
+        there = append-all (IsThere k) (map (Block n) (blocks at (min count (answer k (Measure n) - at)))) [] (blocks_there k n is _) tt;
+      }
+      by_test false e = unchanged_fits k pid inside chosen Done
+
+  pub spaced_in : (s : Slot) (at count : ℕ) (space : Space) → IsOpen k s → is_pipe s.kind ≡ false → IfOk (given k (spaced s.inode at count space)) Fine
+  spaced_in s at count space held file = spaced_at s.inode at count space (sym held.kind ∙ kind_of_file s.kind held.can_be_opened file)

@@ -1,5 +1,5 @@
 -- The edits of each call fit a well-formed state, are the caller's own, and mark objects that are there.
-use Rattle.std.proofs.Common.{◌≢◌, ◌∙◌, ℕ, pos, ◌+ℤ◌, true, false, not, ◌&&◌, ◌||◌, List, [], if◌then◌else◌, Option, Some, None, IfOk, refl, sym, ◌==◌, nat_lt, length, nat_le}
+use Rattle.std.proofs.Common.{◌+◌, ◌≢◌, ◌∙◌, ℕ, pos, ◌+ℤ◌, true, false, not, ◌&&◌, ◌||◌, List, [], if◌then◌else◌, Option, Some, None, IfOk, refl, sym, ◌==◌, nat_lt, length, nat_le}
 use Rattle.std.specs.List.{list_any}
 use Rattle.model.specs.State.{Kind, A_directory, Rights, Kernel, Link_to, kind_of}
 use Rattle.model.specs.Plan.{given, ENAMETOOLONG, ENOENT, ENOTDIR, EEXIST, EBUSY, ELOOP, EPERM, EINVAL, EISDIR, EBADF, EFBIG, ESPIPE, or_refuse}
@@ -7,9 +7,9 @@ use Rattle.model.specs.Paths.{is_empty}
 use Rattle.model.specs.Walks.{Place, parsed, walk, is_directory, is_link, last_of}
 use Rattle.ids.specs.Fixed.{special_object}
 use Rattle.ids.specs.Flags.{is_reading, is_writing, is_creating, is_exclusive, is_truncating}
-use Rattle.model.specs.Calls.{Call, Open, Close, Read, Pread, Write, Pwrite, Lseek, Ftruncate, Truncate, Stat, Fstat, Link, Unlink, Rename, Mkdir, Rmdir, List_directory, Symlink, Readlink, Lstat, Mknod, Chmod, Chown, Fchmod, Fchown, Dup, Dup2, Open_pipe, Fork, Exit, Count, Bytes, Slot, own}
+use Rattle.model.specs.Calls.{Call, Open, Close, Read, Pread, Write, Pwrite, Lseek, Ftruncate, Truncate, Stat, Fstat, Link, Unlink, Rename, Exchange, Fallocate, Mkdir, Rmdir, List_directory, Symlink, Readlink, Lstat, Mknod, Chmod, Chown, Fchmod, Fchown, Dup, Dup2, Open_pipe, Fork, Exit, Count, Bytes, Slot, own}
 use Rattle.ids.specs.Rights.{permitted, owned}
-use Rattle.model.specs.Plans.{target_limit, revised, unchanged, is_pipe, read_some, write_some, offset_named, read_from, write_from, base, free, first_of_free, open_limit}
+use Rattle.model.specs.Plans.{target_limit, revised, unchanged, is_pipe, read_some, write_some, offset_named, length_named, read_from, write_from, aimed, free, first_of_free, open_limit}
 use Rattle.model.specs.Steps.{outcome}
 use Rattle.model.specs.Entries.{is_inside}
 use Rattle.call_laws.specs.WellFormed.{CanBeNamed, CanBeOpened, WellFormed}
@@ -20,8 +20,8 @@ use Rattle.call_laws.proofs.calls.NoRing.{IsLedTo, last_of_led}
 use Rattle.call_laws.proofs.calls.OwnSlots.{IsFreeIn, all_free, free_different}
 use Rattle.call_laws.proofs.calls.OpenSlots.{IsOpen, is_open, with_slot}
 use Rattle.call_laws.proofs.calls.WillFit.{WillFit, both_ok, unchanged_fits}
-use Rattle.call_laws.proofs.calls.NamesFit.{mkdir_at, fixed_at, rmdir_at, status_fits, not_directory, file_alone, link_at, unlink_at, rename_at}
-use Rattle.call_laws.proofs.calls.ContentsFit.{read_at, write_at, put_from, seek_at, truncated, cut_fits}
+use Rattle.call_laws.proofs.calls.NamesFit.{mkdir_at, fixed_at, rmdir_at, status_fits, not_directory, file_alone, link_at, unlink_at, rename_at, exchange_at}
+use Rattle.call_laws.proofs.calls.ContentsFit.{read_at, write_at, put_from, seek_at, truncated, cut_fits, spaced_in}
 use Rattle.call_laws.proofs.calls.SlotsFit.{close_at, dup_with, dup2_at, pipe_with, fork_at, exit_at, open_at_last, first_free}
 
 -- the rights of an inode that is there can be set
@@ -73,7 +73,13 @@ call_fits k pid (Pwrite f bytes offset) chosen well alive = with_slot k pid (Pwr
     either_given k (WillFit k pid true chosen) (is_empty bytes) (unchanged (Count 0)) (write_from k.bounds.file_bytes s.inode at bytes) (λ _. unchanged_fits k pid true chosen (Count 0)) (λ _. put_from k well pid alive true chosen s bytes (is_open k well pid f s held) file at))))))
 call_fits k pid (Lseek f move whence) chosen well alive = with_slot k pid (Lseek f move whence) f (WillFit k pid true chosen) _ (λ s held.
     allowed k (WillFit k pid true chosen) (is_pipe s.kind) ESPIPE _ (λ _.
-    after_bind k (WillFit k pid true chosen) (base s whence) _ (whatever (given k (base s whence)) (λ place. seek_at k well pid alive true chosen s (pos place +ℤ move) (is_open k well pid f s held)))))
+    after_bind k (WillFit k pid true chosen) (aimed s move whence) _ (whatever (given k (aimed s move whence)) (λ sum. seek_at k well pid alive true chosen s sum (is_open k well pid f s held)))))
+call_fits k pid (Fallocate f offset len space) chosen well alive = with_slot k pid (Fallocate f offset len space) f (WillFit k pid true chosen) _ (λ s held.
+    after_bind k (WillFit k pid true chosen) (or_refuse EINVAL (offset_named offset)) _ (whatever (given k (or_refuse EINVAL (offset_named offset))) (λ at.
+    after_bind k (WillFit k pid true chosen) (or_refuse EINVAL (length_named len)) _ (whatever (given k (or_refuse EINVAL (length_named len))) (λ count.
+    allowed k (WillFit k pid true chosen) (not s.writing) EBADF _ (λ _.
+    allowed k (WillFit k pid true chosen) (is_pipe s.kind) ESPIPE _ (λ file.
+    allowed k (WillFit k pid true chosen) (nat_lt k.bounds.file_bytes (at + count)) EFBIG _ (λ _. spaced_in k well pid alive true chosen s at count space (is_open k well pid f s held) file))))))))
 call_fits k pid (Ftruncate f len) chosen well alive = with_slot k pid (Ftruncate f len) f (WillFit k pid true chosen) _ (λ s held.
     allowed k (WillFit k pid true chosen) (not s.writing) EBADF _ (λ _.
     allowed k (WillFit k pid true chosen) (is_pipe s.kind) EINVAL _ (λ file.
@@ -105,6 +111,15 @@ call_fits k pid (Rename old path) chosen well alive =
     after_bind k (WillFit k pid true chosen) (last_of k.root EBUSY from) _
     (weaken (given k (last_of k.root EBUSY from)) (both_ok (IsLast k) (IsLedTo k k.root from) (given k (last_of k.root EBUSY from)) (last_of_right k well EBUSY from) (last_of_led k EBUSY from)) (λ at both.
     rename_at k well pid alive true chosen from to at both.0 both.1 at.found refl)))))))
+call_fits k pid (Exchange old path) chosen well alive =
+    after_bind k (WillFit k pid true chosen) (parsed k.bounds.path_bytes old) _ (whatever (given k (parsed k.bounds.path_bytes old)) (λ from.
+    after_bind k (WillFit k pid true chosen) (parsed k.bounds.path_bytes path) _ (whatever (given k (parsed k.bounds.path_bytes path)) (λ to.
+    allowed k (WillFit k pid true chosen) (is_empty from || is_empty to) EBUSY _ (λ _.
+    after_bind k (WillFit k pid true chosen) (last_of k.root EBUSY from) _
+    (weaken (given k (last_of k.root EBUSY from)) (both_ok (IsLast k) (IsLedTo k k.root from) (given k (last_of k.root EBUSY from)) (last_of_right k well EBUSY from) (last_of_led k EBUSY from)) (λ at both.
+    after_bind k (WillFit k pid true chosen) (last_of k.root EBUSY to) _
+    (weaken (given k (last_of k.root EBUSY to)) (both_ok (IsLast k) (IsLedTo k k.root to) (given k (last_of k.root EBUSY to)) (last_of_right k well EBUSY to) (last_of_led k EBUSY to)) (λ onto both_too.
+    exchange_at k well pid alive true chosen from to at onto both.0 both.1 both_too.0 both_too.1 at.found onto.found refl refl)))))))))
 call_fits k pid (Mkdir path) chosen well alive =
     after_bind k (WillFit k pid true chosen) (parsed k.bounds.path_bytes path) _ (whatever (given k (parsed k.bounds.path_bytes path)) (λ names.
     after_bind k (WillFit k pid true chosen) (last_of k.root EEXIST names) _ (weaken (given k (last_of k.root EEXIST names)) (last_of_right k well EEXIST names) (λ at last. mkdir_at k well pid alive true chosen at last at.found refl))))

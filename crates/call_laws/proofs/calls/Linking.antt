@@ -1,17 +1,17 @@
 -- What a call gives one more name is what it has found: only `link` gives one, and by one edit.
-use Rattle.std.proofs.Common.{◌≡◌, ℕ, ℤ, pos, negsuc, ◌+ℤ◌, Bool, true, false, not, ◌&&◌, ◌||◌, ◌==◌, List, [], ◌∷◌, ◌++◌, length, take, if◌then◌else◌, nat_lt, nat_le, Option, Some, None, Result, Ok, Err, IfOk, refl, sym, ap, subst, ◌∙◌}
+use Rattle.std.proofs.Common.{◌≡◌, ℕ, ◌+◌, ◌-◌, min, ℤ, pos, negsuc, ◌+ℤ◌, Bool, true, false, not, ◌&&◌, ◌||◌, ◌==◌, List, [], ◌∷◌, ◌++◌, length, take, if◌then◌else◌, nat_lt, nat_le, Option, Some, None, Result, Ok, Err, IfOk, refl, sym, ap, subst, ◌∙◌}
 use Rattle.std.specs.Prelude.{⊤}
 use Rattle.std.specs.List.{list_any}
 use Rattle.model.specs.FiniteMap.{keys}
 use Rattle.model.specs.State.{Name, A_file, A_directory, A_pipe, A_link, A_fifo, A_socket, Kernel, names_of}
 use Rattle.model.specs.Aspects.{Keeps, KeepsAll}
-use Rattle.model.specs.Plan.{Errno, Plan, Count_ends, Fit, Give, Refuse, Ask, shown, answer, seen, given, ◌>>=◌, ◌>>◌, refuse_if, or_refuse, EINVAL, ENOENT, ENAMETOOLONG, EEXIST, EBUSY, EBADF, EPERM, ENOTDIR, ENOTEMPTY, EISDIR, ELOOP, ENXIO, EFBIG, ESPIPE, EPIPE, EAGAIN}
-use Rattle.model.specs.Changes.{Mode, There, Name_file, Unname_directory, Append, Open_inode, Set_offset}
+use Rattle.model.specs.Plan.{Errno, Plan, Measure, Count_ends, Fit, Give, Refuse, Ask, shown, answer, seen, given, ◌>>=◌, ◌>>◌, refuse_if, or_refuse, EINVAL, ENOENT, ENAMETOOLONG, EEXIST, EBUSY, EBADF, EPERM, ENOTDIR, ENOTEMPTY, EISDIR, ELOOP, ENXIO, EFBIG, ESPIPE, EPIPE, EAGAIN}
+use Rattle.model.specs.Changes.{Mode, There, Name_file, Unname_directory, Append, Open_inode, Set_offset, Wipe, Cut}
 use Rattle.model.specs.Paths.{is_empty, is_below, path_names}
 use Rattle.model.specs.Walks.{Place, Last, told, parsed, walk, last_of, is_directory, is_link}
 use Rattle.ids.specs.Flags.{is_reading, is_writing, is_creating, is_exclusive, is_truncating}
-use Rattle.model.specs.Calls.{OpenFlags, Call, Open, Close, Read, Pread, Write, Pwrite, Lseek, Ftruncate, Truncate, Stat, Fstat, Link, Unlink, Rename, Mkdir, Rmdir, List_directory, Symlink, Readlink, Lstat, Mknod, Chmod, Chown, Fchmod, Fchown, Dup, Dup2, Open_pipe, Fork, Exit, Done, Descriptor, Count, Bytes, Slot, Own, own}
-use Rattle.model.specs.Plans.{Change, changed, unchanged, target_limit, most_processes, mode, cut_to, absent, status, is_special, slot, is_pipe, read_pipe, read_some, place_to_write, write_some, offset_named, base, sought, replaced_by_name, moved, opened, free, first_of_free, duplicated, piped, open_limit}
+use Rattle.model.specs.Calls.{OpenFlags, Call, Open, Close, Read, Pread, Write, Pwrite, Lseek, Ftruncate, Truncate, Stat, Fstat, Link, Unlink, Rename, Exchange, Fallocate, Space, Grow, Keep, Punch, Mkdir, Rmdir, List_directory, Symlink, Readlink, Lstat, Mknod, Chmod, Chown, Fchmod, Fchown, Dup, Dup2, Open_pipe, Fork, Exit, Done, Descriptor, Count, Bytes, Slot, Own, own}
+use Rattle.model.specs.Plans.{Change, changed, unchanged, target_limit, most_processes, mode, cut_to, absent, status, is_special, slot, is_pipe, read_pipe, read_some, place_to_write, write_some, offset_named, length_named, aimed, sought, spaced, swapped, replaced_by_name, moved, opened, free, first_of_free, duplicated, piped, open_limit}
 use Rattle.model.specs.Steps.{outcome, reads, edits_of, edits}
 use Rattle.model.proofs.Laws.{all-append, append-all, goes_the_same_way}
 use Rattle.call_laws.specs.WellFormed.{WellFormed}
@@ -93,6 +93,19 @@ module _ (k : Kernel) (P : ℕ → Type 0) where
       allowed k (Fine P) (is_directory what && not (is_directory old)) ENOTDIR _ (λ _.
       after_bind k (Fine P) (replaced_by_name old.0 (is_directory old)) _ (whatever (given k (replaced_by_name old.0 (is_directory old))) (λ replaced. (tt, tt))))))
 
+  spaced_links : (n at count : ℕ) (space : Space) → IfOk (given k (spaced n at count space)) (Fine P)
+  spaced_links n at count Grow = grown (nat_lt (answer k (Measure n)) (at + count))
+    where
+      grown : (b : Bool) → Fine P (record { reply = Done; edits = if b then Cut n (answer k (Measure n)) (at + count) ∷ [] else [] })
+      grown true = (tt, tt)
+      grown false = tt
+  spaced_links n at count Keep = tt
+  spaced_links n at count Punch = wiped (nat_lt at (answer k (Measure n)))
+    where
+      wiped : (b : Bool) → Fine P (record { reply = Done; edits = if b then Wipe n at (min count (answer k (Measure n) - at)) ∷ [] else [] })
+      wiped true = (tt, tt)
+      wiped false = tt
+
   -- a path with its names, a slot, a last name, what is found, a walk
   with_path : (path : List ℕ) (f : List Name → Plan Change) → ((names : List Name) → path_names k.bounds.path_bytes path ≡ Ok names → IfOk (given k (f names)) (Fine P)) → IfOk (given k (parsed k.bounds.path_bytes path >>= f)) (Fine P)
   with_path path f h = by_result (path_names k.bounds.path_bytes path) refl
@@ -133,7 +146,11 @@ module _ (k : Kernel) (P : ℕ → Type 0) where
       with_any (or_refuse EINVAL (offset_named offset)) _ (λ at.
       either_given k (Fine P) (is_empty bytes) _ _ (λ _. tt) (λ _. allowed k (Fine P) (nat_le k.bounds.file_bytes at) EFBIG _ (λ _. (tt, tt)))))))
   links_first pid (Lseek f move whence) h = with_any (slot (own k pid (Lseek f move whence)) f) _ (λ s.
-      allowed k (Fine P) (is_pipe s.kind) ESPIPE _ (λ _. with_any (base s whence) _ (λ place. sought_links s (pos place +ℤ move))))
+      allowed k (Fine P) (is_pipe s.kind) ESPIPE _ (λ _. with_any (aimed s move whence) _ (λ sum. sought_links s sum)))
+  links_first pid (Fallocate f offset len space) h = with_any (slot (own k pid (Fallocate f offset len space)) f) _ (λ s.
+      with_any (or_refuse EINVAL (offset_named offset)) _ (λ at. with_any (or_refuse EINVAL (length_named len)) _ (λ count.
+      allowed k (Fine P) (not s.writing) EBADF _ (λ _.
+      allowed k (Fine P) (is_pipe s.kind) ESPIPE _ (λ _. allowed k (Fine P) (nat_lt k.bounds.file_bytes (at + count)) EFBIG _ (λ _. spaced_links s.inode at count space))))))
   links_first pid (Ftruncate f len) h = with_any (slot (own k pid (Ftruncate f len)) f) _ (λ s.
       allowed k (Fine P) (not s.writing) EBADF _ (λ _.
       allowed k (Fine P) (is_pipe s.kind) EINVAL _ (λ _. allowed k (Fine P) (nat_lt k.bounds.file_bytes len) EFBIG _ (λ _. (tt, tt)))))
@@ -157,6 +174,13 @@ module _ (k : Kernel) (P : ℕ → Type 0) where
       with_any (last_of k.root EBUSY from) _ (λ at. with_any (or_refuse ENOENT at.found) _ (λ what.
       allowed k (Fine P) (is_directory what && is_below from to) EINVAL _ (λ _.
       with_any (last_of k.root EBUSY to) _ (λ onto. moved_links at what onto onto.found)))))))
+  links_first pid (Exchange old path) h = with_path old _ (λ from _. with_path path _ (λ to _.
+      allowed k (Fine P) (is_empty from || is_empty to) EBUSY _ (λ _.
+      with_any (last_of k.root EBUSY from) _ (λ at. with_any (last_of k.root EBUSY to) _ (λ onto.
+      with_any (or_refuse ENOENT at.found) _ (λ what. with_any (or_refuse ENOENT onto.found) _ (λ other.
+      allowed k (Fine P) (is_directory what && is_below from to) EINVAL _ (λ _.
+      allowed k (Fine P) (is_directory other && is_below to from) EINVAL _ (λ _.
+      either_given k (Fine P) (what.0 == other.0) _ _ (λ _. tt) (λ _. (tt, tt)))))))))))
   links_first pid (Mkdir path) h = with_path path _ (λ names _. with_any (last_of k.root EEXIST names) _ (λ at. absent_links at.found _ (tt, tt)))
   links_first pid (Rmdir path) h = with_path path _ (λ names _. with_any (last_of k.root EBUSY names) _ (λ at. with_any (or_refuse ENOENT at.found) _ (λ what.
       allowed k (Fine P) (not (is_directory what)) ENOTDIR _ (λ _.

@@ -4,7 +4,7 @@ use Rattle.model.specs.FiniteMap.{FinMap, get, empty, insert, get-empty}
 use Rattle.std.proofs.lemmas.Bool.{cases_eq}
 use Rattle.model.specs.State.{Kind, Kernel, Inode, File, Directory, Pipe, Fixed, Description, Process, kind, kind_of, mapped}
 use Rattle.model.specs.Calls.{Slot, slot_of}
-use Rattle.model.specs.Changes.{Edit, Made, number, Mode, Make_directory, Make_file, Make_fixed, Name_file, Unname_file, Unname_directory, Move, Put_bytes, Cut, Take, Append, Set_offset, Set_rights, Open_inode, Make_pipe, Share_slot, Clear_slot, New_process, End_process, applied, process_of, set_inode, set_offset, at_offset, set_process, set_description, at_start, with_slot, without_slot, open_at, to_read, to_write}
+use Rattle.model.specs.Changes.{Edit, Made, number, Mode, Make_directory, Make_file, Make_fixed, Name_file, Unname_file, Unname_directory, Move, Swap, Put_bytes, Wipe, Cut, Take, Append, Set_offset, Set_rights, Open_inode, Make_pipe, Share_slot, Clear_slot, New_process, End_process, applied, process_of, set_inode, set_offset, at_offset, set_process, set_description, at_start, with_slot, without_slot, open_at, to_read, to_write}
 use Rattle.call_laws.specs.Fits.{table_of, fixed_of, IsAlive, OwnAlike, Fits, IsBy}
 use Rattle.model.proofs.Laws.{get_same, get_other}
 use Rattle.call_laws.proofs.Maps.{not_none, from_insert, removed_same}
@@ -136,7 +136,9 @@ own_stays_alike chosen now later (Name_file d x n) pid inside by f g h = inode_s
 own_stays_alike chosen now later (Unname_file d x n) pid inside by f g h = inode_stays now later pid d _ _ refl h
 own_stays_alike chosen now later (Unname_directory d x n) pid inside by f g h = inode_stays now later pid d _ _ refl h
 own_stays_alike chosen now later (Move d x e y n replaced) pid inside by f g h = inode_stays _ _ pid e _ _ refl (inode_stays now later pid d _ _ refl h)
+own_stays_alike chosen now later (Swap d x n e y m) pid inside by f g h = inode_stays _ _ pid e _ _ refl (inode_stays now later pid d _ _ refl h)
 own_stays_alike chosen now later (Put_bytes n place bytes before) pid inside by f g h = inode_stays now later pid n _ _ refl h
+own_stays_alike chosen now later (Wipe n place count) pid inside by f g h = inode_stays now later pid n _ _ refl h
 own_stays_alike chosen now later (Cut n before after) pid inside by f g h = inode_stays now later pid n _ _ refl h
 own_stays_alike chosen now later (Take p count) pid inside by f g h = inode_stays now later pid p _ _ refl h
 own_stays_alike chosen now later (Append p bytes) pid inside by f g h = inode_stays now later pid p _ _ refl h

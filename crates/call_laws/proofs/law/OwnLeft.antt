@@ -3,7 +3,7 @@ use Rattle.std.proofs.Common.{◌≡◌, ◌≢◌, ℕ, Bool, List, [], Option,
 use Rattle.model.specs.FiniteMap.{FinMap, get, empty}
 use Rattle.model.specs.State.{Name, A_directory, Kernel, Inode, File, Directory, Pipe, Fixed, Description, kind, kind_of, mapped}
 use Rattle.model.specs.Calls.{slot_of}
-use Rattle.model.specs.Changes.{Edit, Mode, Make_directory, Make_file, Make_fixed, Name_file, Unname_file, Unname_directory, Move, Put_bytes, Cut, Take, Append, Set_offset, Set_rights, Open_inode, Make_pipe, Share_slot, Clear_slot, New_process, End_process, applied, process_of, set_inode, set_name, clear_name, set_description, at_start, with_slot, open_at, to_read, to_write}
+use Rattle.model.specs.Changes.{Edit, Mode, Make_directory, Make_file, Make_fixed, Name_file, Unname_file, Unname_directory, Move, Swap, Put_bytes, Wipe, Cut, Take, Append, Set_offset, Set_rights, Open_inode, Make_pipe, Share_slot, Clear_slot, New_process, End_process, applied, process_of, set_inode, set_name, clear_name, set_description, at_start, with_slot, open_at, to_read, to_write}
 use Rattle.call_laws.specs.Fits.{table_of, fixed_of, IsAlive, IsUnused, OwnAlike, Fits, IsBy}
 use Rattle.call_laws.specs.WellFormed.{WellFormed, CanBeOpened}
 use Rattle.model.proofs.Laws.{get_other, unchanged_by}
@@ -71,7 +71,11 @@ own_is_left_alone chosen k (Unname_directory d x n) pid other inside by away ali
 own_is_left_alone chosen k (Move d x e y n replaced) pid other inside by away alive well f =
     own_trans k (clear_name d x k) (set_name e y n (clear_name d x k)) pid (inode_alone k pid d _ f.from.parent.directory)
     (inode_alone (clear_name d x k) pid e _ (unchanged_by (mapped kind) k d _ (sym f.from.parent.directory) e ∙ f.onto.directory))
+own_is_left_alone chosen k (Swap d x n e y m) pid other inside by away alive well f =
+    own_trans k (set_name d x m k) (set_name e y n (set_name d x m k)) pid (inode_alone k pid d _ f.first.parent.directory)
+    (inode_alone (set_name d x m k) pid e _ (unchanged_by (mapped kind) k d _ (sym f.first.parent.directory) e ∙ f.second.parent.directory))
 own_is_left_alone chosen k (Put_bytes n place bytes before) pid other inside by away alive well f = inode_alone k pid n _ f.0
+own_is_left_alone chosen k (Wipe n place count) pid other inside by away alive well f = inode_alone k pid n _ f.0
 own_is_left_alone chosen k (Cut n before after) pid other inside by away alive well f = inode_alone k pid n _ f.0
 own_is_left_alone chosen k (Take p count) pid other inside by away alive well f = inode_alone k pid p _ f.0
 own_is_left_alone chosen k (Append p bytes) pid other inside by away alive well f = inode_alone k pid p _ f.0

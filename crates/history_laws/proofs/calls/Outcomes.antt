@@ -1,18 +1,19 @@
 -- What the plans of calls come to: none refuses as unsupported, and but for fork and exit each edit
 -- of processes is of the caller's own table.
-use Rattle.std.proofs.Common.{◌≡◌, ℕ, List, [], ◌∷◌, Bool, true, false, not, ◌||◌, ◌&&◌, Option, Some, None, Result, Ok, Err, IfOk, refl, ap, ◌==◌, nat_lt, nat_le, if◌then◌else◌, length}
+use Rattle.std.proofs.Common.{◌+◌, ◌≡◌, ℕ, List, [], ◌∷◌, Bool, true, false, not, ◌||◌, ◌&&◌, Option, Some, None, Result, Ok, Err, IfOk, refl, ap, ◌==◌, nat_lt, nat_le, if◌then◌else◌, length}
 use Rattle.std.specs.Prelude.{⊤, ℤ, pos, negsuc, ◌+ℤ◌}
 use Rattle.std.specs.List.{AllByRecursion, list_any}
 use Rattle.std.proofs.lemmas.Bool.{false≢true}
 use Rattle.model.proofs.Laws.{append-all}
 use Rattle.model.specs.State.{Name, A_file, A_directory, A_pipe, A_link, A_fifo, A_socket, Kernel}
 use Rattle.model.specs.Plan.{Errno, EAGAIN, EBADF, EBUSY, EEXIST, EFBIG, EINVAL, EISDIR, ELOOP, ENAMETOOLONG, ENOENT, ENOTDIR, ENOTEMPTY, ENXIO, EPERM, EPIPE, ESPIPE, Shown, answer, Plan, Give, Refuse, Ask, ◌>>=◌, refuse_if, or_refuse, given}
+use Rattle.model.specs.Holes.{behind_blocks}
 use Rattle.model.specs.Paths.{is_empty, is_below, is_no_name, with_first, names_in, names_behind, absolute_names, path_names, pieces}
 use Rattle.model.specs.Walks.{told, parsed, Place, is_directory, is_link, look, walk, Last, last, last_of}
 use Rattle.model.specs.Changes.{Edit, Replaced, Open_inode, Make_pipe, Share_slot, Clear_slot, New_process, End_process}
 use Rattle.ids.specs.Flags.{is_reading, is_writing, is_creating, is_exclusive, is_truncating}
-use Rattle.model.specs.Calls.{own, Call, Open, Close, Read, Pread, Write, Pwrite, Lseek, Ftruncate, Truncate, Stat, Fstat, Link, Unlink, Rename, Mkdir, Rmdir, List_directory, Symlink, Readlink, Lstat, Mknod, Chmod, Chown, Fchmod, Fchown, Dup, Dup2, Open_pipe, Fork, Exit, Whence, From_start, From_offset, From_end, OpenFlags, Answer, Child, Slot, Own}
-use Rattle.model.specs.Plans.{Change, plan, target_limit, is_pipe, status, is_special, cut_to, opened, read_pipe, read_some, place_to_write, write_some, offset_named, write_from, sought, base, replaced_by_name, move_onto, moved, absent, duplicated, piped, forked, first_of_free, slot, slot_at, free, open_limit}
+use Rattle.model.specs.Calls.{own, Call, Open, Close, Read, Pread, Write, Pwrite, Lseek, Ftruncate, Truncate, Stat, Fstat, Link, Unlink, Rename, Exchange, Fallocate, Space, Grow, Keep, Punch, Mkdir, Rmdir, List_directory, Symlink, Readlink, Lstat, Mknod, Chmod, Chown, Fchmod, Fchown, Dup, Dup2, Open_pipe, Fork, Exit, Whence, From_start, From_offset, From_end, To_data, To_hole, OpenFlags, Answer, Child, Slot, Own}
+use Rattle.model.specs.Plans.{Change, plan, target_limit, is_pipe, status, is_special, cut_to, opened, read_pipe, read_some, place_to_write, write_some, offset_named, write_from, sought, length_named, found_from, aimed, spaced, swapped, replaced_by_name, move_onto, moved, absent, duplicated, piped, forked, first_of_free, slot, slot_at, free, open_limit}
 use Rattle.model.specs.Entries.{is_unsupported, is_inside, answer_in}
 use Rattle.model.specs.Replies.{answered}
 use Rattle.model.specs.Steps.{outcome, reply, reply_of}
@@ -178,10 +179,29 @@ tame_sought : (pid largest : ℕ) (it : Slot) (z : ℤ) → Ends (Tame pid) (sou
 tame_sought pid largest it (pos place) = then_any (Tame pid) (refuse_if (nat_lt largest place) EINVAL) _ (tested _ EINVAL refl) (λ _. record { edits = (tt, tt); childless = refl })
 tame_sought pid largest it (negsuc place) = refl
 
-base_any : (it : Slot) (w : Whence) → Ends Any (base it w)
-base_any it From_start = tt
-base_any it From_offset = λ a. tt
-base_any it From_end = λ a. tt
+found_any : (holes : Bool) (n from : ℕ) → Ends Any (found_from holes n from)
+found_any holes n from = λ size. then_any {B = ℕ} Any (refuse_if (nat_le size from) ENXIO) _ (tested _ ENXIO refl) (λ _ passed.
+    then_any {B = ℕ} Any (refuse_if (not holes && nat_le size (behind_blocks from passed)) ENXIO) _ (tested _ ENXIO refl) (λ _. tt))
+
+found_at : (holes : Bool) (n : ℕ) (move : ℤ) → Ends {A = ℤ} Any (or_refuse ENXIO (offset_named move) >>= (λ from. found_from holes n from >>= (λ place. Give (pos place))))
+found_at holes n (pos from) = then_any {B = ℤ} Any (found_from holes n from) _ (found_any holes n from) (λ place. tt)
+found_at holes n (negsuc from) = refl
+
+aimed_any : (it : Slot) (move : ℤ) (w : Whence) → Ends Any (aimed it move w)
+aimed_any it move From_start = tt
+aimed_any it move From_offset = λ a. tt
+aimed_any it move From_end = λ a. tt
+aimed_any it move To_data = found_at false it.inode move
+aimed_any it move To_hole = found_at true it.inode move
+
+edits_if : (pid : ℕ) (b : Bool) (e : Edit) → IsOf pid e → AllByRecursion (IsOf pid) (if b then e ∷ [] else [])
+edits_if pid true e h = (h, tt)
+edits_if pid false e h = tt
+
+tame_spaced : (pid n at count : ℕ) (space : Space) → Ends (Tame pid) (spaced n at count space)
+tame_spaced pid n at count Grow = λ size. record { edits = edits_if pid _ _ tt; childless = refl }
+tame_spaced pid n at count Keep = record { edits = tt; childless = refl }
+tame_spaced pid n at count Punch = λ size. record { edits = edits_if pid _ _ tt; childless = refl }
 
 replaced_any : (n : ℕ) (b : Bool) → Ends Any (replaced_by_name n b)
 replaced_any n true = λ names. then_any {B = Replaced} Any (refuse_if (not (is_empty names)) ENOTEMPTY) _ (tested _ ENOTEMPTY refl) (λ _. tt)
@@ -248,7 +268,13 @@ tame_plan own (Pwrite f bytes offset) is = then_any (Tame own.pid) (slot own f) 
     either (Tame own.pid) (is_empty bytes) _ _ (record { edits = tt; childless = refl }) (tame_write_from own.pid own.bounds.file_bytes it.inode at bytes)))))
 tame_plan own (Lseek f move whence) is = then_any (Tame own.pid) (slot own f) _ (slot_any own f) (λ it.
     then_any (Tame own.pid) (refuse_if (is_pipe it.kind) ESPIPE) _ (tested _ ESPIPE refl) (λ _.
-    then_any (Tame own.pid) (base it whence) _ (base_any it whence) (λ place. tame_sought own.pid own.bounds.file_bytes it (pos place +ℤ move))))
+    then_any (Tame own.pid) (aimed it move whence) _ (aimed_any it move whence) (λ sum. tame_sought own.pid own.bounds.file_bytes it sum)))
+tame_plan own (Fallocate f offset len space) is = then_any (Tame own.pid) (slot own f) _ (slot_any own f) (λ it.
+    then_any (Tame own.pid) (or_refuse EINVAL (offset_named offset)) _ (found EINVAL (offset_named offset) refl) (λ at.
+    then_any (Tame own.pid) (or_refuse EINVAL (length_named len)) _ (found EINVAL (length_named len) refl) (λ count.
+    then_any (Tame own.pid) (refuse_if (not it.writing) EBADF) _ (tested _ EBADF refl) (λ _.
+    then_any (Tame own.pid) (refuse_if (is_pipe it.kind) ESPIPE) _ (tested _ ESPIPE refl) (λ _.
+    then_any (Tame own.pid) (refuse_if (nat_lt own.bounds.file_bytes (at + count)) EFBIG) _ (tested _ EFBIG refl) (λ _. tame_spaced own.pid it.inode at count space))))))
 tame_plan own (Ftruncate f len) is = then_any (Tame own.pid) (slot own f) _ (slot_any own f) (λ it.
     then_any (Tame own.pid) (refuse_if (not it.writing) EBADF) _ (tested _ EBADF refl) (λ _.
     then_any (Tame own.pid) (refuse_if (is_pipe it.kind) EINVAL) _ (tested _ EINVAL refl) (λ _.
@@ -283,6 +309,17 @@ tame_plan own (Rename old path) is =
     then_any (Tame own.pid) (or_refuse ENOENT at.found) _ (found ENOENT at.found refl) (λ what.
     then_any (Tame own.pid) (refuse_if (is_directory what && is_below from_names to) EINVAL) _ (tested _ EINVAL refl) (λ _.
     then_any (Tame own.pid) (last_of own.root EBUSY to) _ (last_of_any own.root EBUSY to refl) (λ onto. tame_moved own.pid at what onto onto.found)))))))
+tame_plan own (Exchange old path) is =
+    then_any (Tame own.pid) (parsed own.bounds.path_bytes old) _ (parsed_any own.bounds.path_bytes old) (λ from_names.
+    then_any (Tame own.pid) (parsed own.bounds.path_bytes path) _ (parsed_any own.bounds.path_bytes path) (λ to.
+    then_any (Tame own.pid) (refuse_if (is_empty from_names || is_empty to) EBUSY) _ (tested _ EBUSY refl) (λ _.
+    then_any (Tame own.pid) (last_of own.root EBUSY from_names) _ (last_of_any own.root EBUSY from_names refl) (λ at.
+    then_any (Tame own.pid) (last_of own.root EBUSY to) _ (last_of_any own.root EBUSY to refl) (λ onto.
+    then_any (Tame own.pid) (or_refuse ENOENT at.found) _ (found ENOENT at.found refl) (λ what.
+    then_any (Tame own.pid) (or_refuse ENOENT onto.found) _ (found ENOENT onto.found refl) (λ other.
+    then_any (Tame own.pid) (refuse_if (is_directory what && is_below from_names to) EINVAL) _ (tested _ EINVAL refl) (λ _.
+    then_any (Tame own.pid) (refuse_if (is_directory other && is_below to from_names) EINVAL) _ (tested _ EINVAL refl) (λ _.
+    either (Tame own.pid) (what.0 == other.0) _ _ (record { edits = tt; childless = refl }) (record { edits = (tt, tt); childless = refl }))))))))))
 tame_plan own (Mkdir path) is =
     then_any (Tame own.pid) (parsed own.bounds.path_bytes path) _ (parsed_any own.bounds.path_bytes path) (λ names.
     then_any (Tame own.pid) (last_of own.root EEXIST names) _ (last_of_any own.root EEXIST names refl) (λ at.

@@ -223,25 +223,9 @@ pub apart_from : (s t : Committed) (es : List Edit) (chosen : List ℕ) → CanE
 apart_from s t es chosen can has have = all_apart s.reserves chosen (all-mapped chosen (λ n h. h.0) have.unused) have.different es can has have.count
 
 -- the parents of edits are directories
-parents_all : (reserves : FinMap nat_cmp Reserve) (es : List Edit) → HaveParents reserves es → AllByRecursion (IsDirectory reserves) (flat_map parents_in es)
+pub parents_all : (reserves : FinMap nat_cmp Reserve) (es : List Edit) → HaveParents reserves es → AllByRecursion (IsDirectory reserves) (flat_map parents_in es)
 parents_all reserves [] has = tt
 parents_all reserves (e ∷ es) has = subst (AllByRecursion (IsDirectory reserves)) (sym (flat_map-cons parents_in e es)) (append-all (IsDirectory reserves) (parents_in e) (flat_map parents_in es) has.0 (parents_all reserves es has.1))
-
-pub parent_is : (reserves : FinMap nat_cmp Reserve) (es : List Edit) (d : ℕ) → HaveParents reserves es → listed (Some d) ≡ flat_map parents_in es → IsDirectory reserves d
-parent_is reserves es d has is = (subst (AllByRecursion (IsDirectory reserves)) (sym is) (parents_all reserves es has)).0
-
--- what is kept for edits, with the room of a name and without
-pub kept_alone : (s t : Committed) (es : List Edit) (chosen : List ℕ) → listed None ≡ flat_map parents_in es → HaveClaimed s t es chosen → KeepsMore s t (λ c. claimed_by c (effect chosen es))
-kept_alone s t es chosen is have c = have.kept c ∙ ap (λ parents. reserved s c + claimed_in c (with_kinds chosen (flat_map kinds_in es)) parents) is
-
-pub kept_with : (s t u : Committed) (es : List Edit) (chosen : List ℕ) (d : ℕ) → listed (Some d) ≡ flat_map parents_in es → HaveClaimed s t es chosen → KeepsMore t u (room_in d) → KeepsMore s u (λ c. claimed_by c (effect chosen es))
-kept_with s t u es chosen d is have more c =
-    let ms = with_kinds chosen (flat_map kinds_in es) in
-    let first : reserved t c ≡ reserved s c + claimed_in c (with_kinds chosen (flat_map kinds_in es)) [] = have.kept c in
-    let second : reserved u c ≡ reserved t c + room_in d c = more c in
-    let both : claimed_in c (with_kinds chosen (flat_map kinds_in es)) (d ∷ []) ≡ claimed_in c (with_kinds chosen (flat_map kinds_in es)) [] + room_in d c = parent_claimed c (with_kinds chosen (flat_map kinds_in es)) d in
-    let sum : reserved u c ≡ reserved s c + claimed_in c (with_kinds chosen (flat_map kinds_in es)) (d ∷ []) = omega arith in
-    sum ∙ ap (λ parents. reserved s c + claimed_in c ms parents) is
 
 -- they can be given up again
 pub may_release_claims : (s t : Committed) (es : List Edit) (chosen : List ℕ) → HaveClaimed s t es chosen → (bs : List Bool) × ((c : Claim) → claimed_in c (with_kinds chosen bs) (listed None) ≤ reserved t c)

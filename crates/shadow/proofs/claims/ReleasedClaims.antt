@@ -87,20 +87,6 @@ module _ (start now : Committed) (all parents : List ℕ) (gives : GivesNumbers 
       let sum : reserved start c + claimed_in c (with_kinds [] (gives.left bs are).kinds) [] ≡ reserved now c + claimed_in c (with_kinds all bs) [] = (gives.left bs are).kept c in
       let none : claimed_in c (with_kinds [] (gives.left bs are).kinds) [] ≡ 0 = none_claimed c in omega arith
 
-module _ (start now : Committed) (all : List ℕ) (d : ℕ) (gives : GivesNumbers start now all (listed (Some d)) []) where
-  pub room_left : (bs : List Bool) × AreKept start all (listed (Some d)) bs → 0 < reserved now (Room d)
-  room_left some =
-      let all_of : reserved start (Room d) ≡ reserved now (Room d) + claimed_in (Room d) (with_kinds all some.0) [] = given_kept start now all (listed (Some d)) gives some.0 some.1 (Room d) in
-      let with_it : claimed_in (Room d) (with_kinds all some.0) (d ∷ []) ≡ claimed_in (Room d) (with_kinds all some.0) [] + room_in d (Room d) = parent_claimed (Room d) (with_kinds all some.0) d in
-      let one : room_in d (Room d) ≡ 1 = ap as_count (eq-eqb d d refl) in
-      let there : claimed_in (Room d) (with_kinds all some.0) (d ∷ []) ≤ reserved start (Room d) = some.1 (Room d) in omega arith
-
-  pub given_with_room : (after : Committed) → KeepsMore after now (room_in d) → (bs : List Bool) → AreKept start all (listed (Some d)) bs → KeepsMore after start (λ c. claimed_in c (with_kinds all bs) (listed (Some d)))
-  given_with_room after less bs are c =
-      let all_of : reserved start c ≡ reserved now c + claimed_in c (with_kinds all bs) [] = given_kept start now all (listed (Some d)) gives bs are c in
-      let with_it : claimed_in c (with_kinds all bs) (d ∷ []) ≡ claimed_in c (with_kinds all bs) [] + room_in d c = parent_claimed c (with_kinds all bs) d in
-      let room : reserved now c ≡ reserved after c + room_in d c = less c in omega arith
-
 -- what the changes of one inode claim, in parts
 abbrev pub kind_made : Made → Bool
 kind_made Directory = true

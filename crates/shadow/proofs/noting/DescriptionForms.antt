@@ -73,6 +73,8 @@ moved_there chosen e one = by_one (MovedThere chosen)
     (λ p bytes mid f q place o is away same. absurd (not_still place same))
     (λ i pid s g mid f q place o is away same. pipe_moved q (new_in chosen (i + 1)) (new_in chosen (i + 2)) place _ _ o away same)
     (λ m rights mid f q place o is away same. absurd (not_still place same))
+    (λ d x m e y n mid f q place o is away same. absurd (not_still place same))
+    (λ m at count mid f q place o is away same. absurd (not_still place same))
     e one
 
 pub moved_over : (new old : Opening) (there : Bool) (opened : Bool) → is_new new ≡ (opened || is_new old) → IsOverDescription old there
@@ -115,6 +117,8 @@ lives_before chosen e one = by_one (LivesBefore chosen)
     (λ p bytes mid f pid o is changed. absurd (changed refl))
     (λ i q s g mid f pid o is changed. slot_lives q mid f.slot.alive pid o is _ changed)
     (λ m rights mid f pid o is changed. absurd (changed refl))
+    (λ d x m e y n mid f pid o is changed. absurd (changed refl))
+    (λ m at count mid f pid o is changed. absurd (changed refl))
     e one
 
 pub alive_over : (new old : List (ℕ × Option ℕ)) (o : Option Process) → new ≢ [] → (old ≢ [] → is_some o ≡ true) → (old ≡ [] → reslotted_by new None ≢ None → is_some o ≡ true) → is_some o ≡ true

@@ -1,6 +1,7 @@
 -- What is kept of an inode lies over what stands there, after one edit more: its form, and what was written.
-use Rattle.std.proofs.Common.{◌≡◌, ◌≢◌, ℕ, ◌+◌, ◌==◌, ◌||◌, Bool, true, false, cond, List, [], ◌∷◌, Option, Some, None, refl, sym, ap, subst, ◌∙◌, eqb-true, ne_eqb, eq-eqb}
+use Rattle.std.proofs.Common.{◌≡◌, ◌≢◌, ℕ, ◌+◌, ◌==◌, ◌||◌, Bool, true, false, cond, List, [], ◌∷◌, Option, Some, None, refl, sym, ap, subst, ◌∙◌, eqb-true, ne_eqb, eq-eqb, arith}
 use Rattle.std.proofs.lemmas.Bool.{false≢true}
+use Rattle.std.proofs.lemmas.List.Sums.{sum_by-cons}
 use Rattle.model.specs.FiniteMap.{get}
 use Rattle.model.specs.State.{Kind, A_file, A_directory, A_pipe, Kernel, Inode, kind, kind_of, mapped}
 use Rattle.model.specs.Changes.{Edit}
@@ -158,6 +159,8 @@ over_after chosen e one = by_one (OverAfter chosen)
     (λ p bytes apart mid f. piped_at p mid f.0)
     (λ i pid s g apart mid f n o made c is over. pipe_made (new_in chosen i) n (mapped kind o) made (form_of c) over)
     (λ m rights apart mid f n o made c is over. over)
+    (λ d x m e y q apart mid f. moved_listed d e mid f.first.parent.directory f.second.parent.directory)
+    (λ m place count apart mid f. filed_at m mid f.0)
     e one
 
 -- what was written before an edit is kept
@@ -209,6 +212,8 @@ kept_same chosen e one = by_one (KeptSame chosen)
     (λ p bytes mid f n o c is. refl)
     (λ i pid s g mid f. new_kept (new_in chosen i) mid f.pipe.inode)
     (λ m rights mid f n o c is. refl)
+    (λ d x m e y q mid f. moved_kept d e mid f.first.parent.directory f.second.parent.directory)
+    (λ m place count mid f n o c is. refl)
     e one
 
 -- what has changes after an edit, or gets a name by it, had changes before
@@ -274,6 +279,19 @@ changed_before m n new form some none = by_test (n == m) none
     by_test true e = absurd (some e)
     by_test false e = (e, refl)
 
+two_parents : (n d e : ℕ) → (n == d) ≡ false → (n == e) ≡ false → times n (d ∷ e ∷ []) ≡ 0
+two_parents n d e h i =
+    let both : times n (d ∷ e ∷ []) ≡ cond (d == n) 1 0 + times n (e ∷ []) = sum_by-cons (λ v. cond (v == n) 1 0) d (e ∷ []) in
+    let one : cond {A = ℕ} (d == n) 1 0 ≡ 0 = ap (λ b. cond {A = ℕ} b 1 0) (ne_eqb d n (λ same. false≢true (sym h ∙ eq-eqb n d (sym same)))) in
+    let other : times n (e ∷ []) ≡ 0 = no_parent n e i in
+    omega arith
+
+swapped_before : (d e n : ℕ) (form : Form) → cond (n == e) (listed (cond (n == d) (listed form) form)) (cond (n == d) (listed form) form) ≡ no_change → (form ≡ no_change) × (times n (d ∷ e ∷ []) ≡ 0)
+swapped_before d e n form none =
+    let outer = listed_before e n (cond (n == d) (listed form) form) none in
+    let inner = listed_before d n form outer.0 in
+    (inner.0, two_parents n d e inner.1 outer.1)
+
 pub still_before : (chosen : List ℕ) (e : Edit) → IsOne e → StillBefore chosen e
 still_before chosen e one = by_one (StillBefore chosen)
     (λ d x i. made_before New_directory d (new_in chosen i))
@@ -293,4 +311,6 @@ still_before chosen e one = by_one (StillBefore chosen)
     (λ p bytes n form none. changed_before p n (piped form) form (piped_some form) none)
     (λ i pid s g n form none. changed_before (new_in chosen i) n (of_pipe true) form (λ e. absurd cc) none)
     (λ m rights n form none. (none, refl))
+    (λ d x m e y q n form none. swapped_before d e n form none)
+    (λ m place count. filed_before m)
     e one

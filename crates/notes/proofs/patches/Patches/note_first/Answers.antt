@@ -2,7 +2,7 @@ use Rattle.std.proofs.Common.{◌≡◌, ◌≤◌, ℕ, List, length, sym, subs
 use Rattle.std.proofs.lemmas.List.{get_or_read}
 use Rattle.model.specs.Changes.{Edit, news}
 use Rattle.notes.specs.Steps.{IsFirst, TakesIn, new_in}
-use Rattle.notes.proofs.UnusedNumbers.{append_taken, cut_taken, pipe_taken, put_taken, take_taken}
+use Rattle.notes.proofs.UnusedNumbers.{append_taken, cut_taken, pipe_taken, put_taken, take_taken, wiped_taken}
 use Rattle.notes.proofs.Outcomes.{ok_so}
 use Rattle.notes.proofs.patches.Patches.note_first.Goals as goal
 
@@ -12,6 +12,13 @@ returns-in-PutBytes-clause-ok c =
     (λ t. subst (λ (e : Edit). TakesIn c.args.chosen.now e c.args.self.now c.write-noted.new.self) (sym c.in-PutBytes.is)
     (put_taken c.args.chosen.now c.args.self.now c.write-noted.new.self c.in-PutBytes.file c.in-PutBytes.offset c.in-PutBytes.bytes c.in-PutBytes.length_before (t c.in-PutBytes.length_before)))
     c.write-noted.ensures.ok
+
+pub returns-in-Wipe-clause-ok : goal.returns-in-Wipe-clause-ok
+returns-in-Wipe-clause-ok c =
+    ok_so c.wipe.result
+    (λ t. subst (λ (e : Edit). TakesIn c.args.chosen.now e c.args.self.now c.wipe.new.self) (sym c.in-Wipe.is)
+    (wiped_taken c.args.chosen.now c.args.self.now c.wipe.new.self c.in-Wipe.file c.in-Wipe.offset c.in-Wipe.count t))
+    c.wipe.ensures.ok
 
 pub returns-in-Cut-clause-ok : goal.returns-in-Cut-clause-ok
 returns-in-Cut-clause-ok c =

@@ -1,6 +1,6 @@
 use Rattle.std.proofs.Common.{◌≡◌, ◌+◌, Ok, Err, arith, length, refl, subst}
 use Rattle.std.specs.Prelude.{IfOk, IfSome, IsOk, IsSome, OnErr, Result}
-use Rattle.model.specs.Changes.{Edit, news, Make_directory, Make_file, Make_fixed, Name_file, Unname_file, Unname_directory, Move, Put_bytes, Cut, Take, Append, Set_offset, Set_rights, Open_inode, Make_pipe, Share_slot, Clear_slot, New_process, End_process}
+use Rattle.model.specs.Changes.{Edit, news, Make_directory, Make_file, Make_fixed, Name_file, Unname_file, Unname_directory, Move, Swap, Put_bytes, Wipe, Cut, Take, Append, Set_offset, Set_rights, Open_inode, Make_pipe, Share_slot, Clear_slot, New_process, End_process}
 use Rattle.notes.specs.Steps.{IsPlaceOf, NeedsPlace}
 use Rattle.notes.proofs.InodeNotes.{same_patches, same_then_takes}
 use Rattle.notes.proofs.Outcomes.{ok_so, on_err}
@@ -25,7 +25,9 @@ module _ {A E S : Type 0} (r : Result A E) where
   has_place (Unname_file d x n) there sure free = sure tt (there tt)
   has_place (Unname_directory d x n) there sure free = sure tt (there tt)
   has_place (Move d x e y n replaced) there sure free = sure tt (there tt)
+  has_place (Swap d x n e y m) there sure free = sure tt (there tt)
   has_place (Put_bytes n place bytes before) there sure free = sure tt (there tt)
+  has_place (Wipe n place count) there sure free = sure tt (there tt)
   has_place (Cut n before after) there sure free = sure tt (there tt)
   has_place (Take p count) there sure free = sure tt (there tt)
   has_place (Append p bytes) there sure free = sure tt (there tt)
