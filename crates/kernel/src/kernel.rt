@@ -133,6 +133,12 @@ impl Kernel {
         self.state.transactions.stable().made()
     }
 
+    /// How many objects there are, inodes and open descriptions, with those that transactions make.
+    /// Contracts do not know it.
+    pub fn objects(&self) -> usize {
+        self.state.transactions.stable().objects()
+    }
+
     /// Whether there is such a process: it was made and has not ended.
     pub fn is_living(&self, pid: Pid) -> bool
         ensures { result ≡ is_alive self.now.state pid }

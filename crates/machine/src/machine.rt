@@ -63,6 +63,10 @@ pub trait Machine: Sized + Drop {
     fn made(&self) -> usize
         ensures { result ≡ (shown self.now).state.made };
 
+    /// How many objects there are, inodes and open descriptions, with those that transactions make.
+    /// Contracts do not know it.
+    fn objects(&self) -> usize;
+
     /// Whether there is such a process: it was made and has not ended.
     fn is_living(&self, pid: Pid) -> bool
         ensures { result ≡ is_alive (shown self.now).state pid };

@@ -22,7 +22,8 @@ use Rattle.mount_requests.specs.declared.failure.Failure.TheVariants as failure
 use Rattle.mount_requests.specs.declared.requests.Caller.{Caller}
 use Rattle.mount_requests.specs.declared.tables.Stepper.{Stepper}
 use Rattle.mount_requests.proofs.Apart.{answered_apart, apart_is, apart_same}
-use Rattle.mounted.specs.Served.{IsServed, IsToldOf, Serves, ServesAt, ServesBy, ServesIn, noted, with_forget, with_forgets}
+use Rattle.mounted.specs.Served.{IsServed, IsToldOf, Serves, ServesAt, ServesBy, ServesIn, ServesRoom, noted, with_forget, with_forgets}
+use Rattle.mounted.specs.Served.ServesRoom.{HasRoom, IsFull, IsShort}
 use Rattle.mounted.specs.Steppers.{TimesStayInView, is_release}
 use Rattle.mounted.proofs.Viewing.{steps_at}
 
@@ -57,8 +58,13 @@ module _ (s later : Seen) (who : Caller) (operation : Operation) (old new : Show
       let same = (steps_at s who.node view st is live m).here in
       in_apart (st.view == 0) st r (ap (λ (v : ℕ). v == 0) same ∙ ne_eqb view 0 live) same h
 
+  room_apart : (r : Result Reply Failure) → ServesRoom s later who operation old new r → AreApart s later view
+  room_apart r (IsFull needs told) = apart_is s view told.2
+  room_apart r (IsShort outcome needs want served is) = by_apart (stepper_at s who.node) outcome refl served
+  room_apart r (HasRoom served) = by_apart (stepper_at s who.node) r refl served
+
   at_apart : (c : Class) (r : Result Reply Failure) → class_of who.node ≡ c → class_of who.node ≡ Tree → ServesAt c s later who operation old new r → AreApart s later view
-  at_apart Tree r e tree h = by_apart (stepper_at s who.node) r refl h
+  at_apart Tree r e tree h = room_apart r h
   at_apart Transactions r e tree h = absurd cc
   at_apart (Control ended) r e tree h = absurd cc
 

@@ -41,6 +41,8 @@ use Rattle.mount_requests.specs.declared.failure.Failure.TheVariants as failure
 use Rattle.mount_requests.specs.declared.requests.Caller.{Caller}
 use Rattle.mount_requests.specs.declared.tables.Stepper.{Stepper}
 use Rattle.mounted.specs.Controls.{ServesControl, ServesTransactions}
+use Rattle.mounted.specs.Room.{is_want, needs_room, status_of}
+use Rattle.mounted.specs.declared.starting.Space.{Space}
 
 -- ---- the plain tree
 
@@ -149,9 +151,27 @@ ServesTree s later who operation old new r =
 
 -- ---- requests about nodes
 
+-- the reply to an outcome
+abbrev pub told : Result Reply Failure → Reply
+told (Ok r) = r
+told (Err (failure.Error e)) = reply.Error e
+told (Err (failure.Aborted why)) = reply.Error errno.ECANCELED
+
+-- Where the tree is full a request by which it grows is refused before its first step, and nothing else is
+-- known then. Where memory is refused to it later, and that was for the limit, ENOSPC is told in the place of
+-- ENOMEM. What is held is of no definition, so each may come at any time.
+pub data ServesRoom (s later : Seen) (who : Caller) (operation : Operation) (old new : Shown)
+    (r : Result Reply Failure) : Type 0 where
+  IsFull : needs_room operation ≡ true → Tells (Err (error errno.ENOSPC)) s later old new r
+      → ServesRoom s later who operation old new r
+  IsShort : (outcome : Result Reply Failure) → needs_room operation ≡ true → is_want (told outcome) ≡ true
+      → ServesTree s later who operation old new outcome → r ≡ Err (error errno.ENOSPC)
+      → ServesRoom s later who operation old new r
+  HasRoom : ServesTree s later who operation old new r → ServesRoom s later who operation old new r
+
 abbrev pub ServesAt : Class → Seen → Seen → Caller → Operation → Shown → Shown → Result Reply Failure
     → Type 0
-ServesAt Tree s later who operation old new r = ServesTree s later who operation old new r
+ServesAt Tree s later who operation old new r = ServesRoom s later who operation old new r
 ServesAt Transactions s later who operation old new r =
     ServesTransactions s later operation old new r
 ServesAt (Control view) s later who operation old new r =
@@ -248,14 +268,14 @@ with_forgets s (f ∷ fs) = with_forgets (with_forget s f.node f.lookups) fs
 abbrev pub without_folder : Seen → ℕ → Seen
 without_folder s handle = record s { folders = map.remove s.folders handle }
 
--- A reply of one kind, whatever it tells: how a session begins, and what the whole tree is like.
+-- A reply of one kind, whatever it tells: how a session begins.
 abbrev pub IsBeginning : Result Reply Failure → Type 0
 IsBeginning (Ok (reply.Init init)) = Unit {0}
 IsBeginning _ = ⊥
 
+-- What the whole tree is like: all numbers follow from three, which no definition knows.
 abbrev pub IsStatus : Result Reply Failure → Type 0
-IsStatus (Ok (reply.StatFs status)) = Unit {0}
-IsStatus _ = ⊥
+IsStatus r = (space : Space) × (r ≡ Ok (reply.StatFs (status_of space)))
 
 -- Requests that are about no node make no step; a release may close a file.
 abbrev pub Serves : Seen → Seen → Caller → Operation → Shown → Shown → Result Reply Failure → Type 0
@@ -269,12 +289,6 @@ Serves s later who (asked.Release handle flags) old new r = Releases s later han
 Serves s later who (asked.ReleaseDir handle) old new r =
     Tells (Ok reply.Empty) (without_folder s handle) later old new r
 Serves s later who operation old new r = ServesAt (class_of who.node) s later who operation old new r
-
--- the reply to an outcome
-abbrev pub told : Result Reply Failure → Reply
-told (Ok r) = r
-told (Err (failure.Error e)) = reply.Error e
-told (Err (failure.Aborted why)) = reply.Error errno.ECANCELED
 
 -- What is told of an outcome by which a request was served.
 pub record ToldBy (Served : Result Reply Failure → Type 0) (answer : Reply) : Type 0 where

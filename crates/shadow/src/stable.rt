@@ -237,6 +237,11 @@ impl Stable {
         self.processes.count()
     }
 
+    /// How many objects there are, with those that are to come. Contracts do not know it.
+    pub fn objects(&self) -> usize {
+        self.store.in_use()
+    }
+
     /// Whether there is such a process.
     pub fn is_living(&self, pid: Pid) -> bool
         ensures { result ≡ is_alive self.now.state pid }
