@@ -29,7 +29,10 @@ fn call<K: Machine>(kernel: &mut K, call: Call) -> Result<()> {
 // Makes the file, which stays open on the first descriptor.
 fn open_first<K: Machine>(kernel: &mut K, heap: Heap) -> Result<()> {
     let path = Bytes::copy(heap, b"/o")?;
-    call(kernel, Call::Open(path, OpenFlags::READ.with(OpenFlags::CREAT)))
+    call(
+        kernel,
+        Call::Open(path, OpenFlags::READ.with(OpenFlags::CREAT)),
+    )
 }
 
 // The descriptors behind the first one, up to so many.

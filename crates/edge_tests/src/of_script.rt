@@ -180,7 +180,10 @@ static OPERATIONS: [(&str, &str); 57] = [
         "Call(Fallocate(Fd(4294967295), -9223372036854775808, 9223372036854775807, Grow))",
     ),
     ("fallocate 0 1 2 KEEP", "Call(Fallocate(Fd(0), 1, 2, Keep))"),
-    ("fallocate 0 0 0 PUNCH", "Call(Fallocate(Fd(0), 0, 0, Punch))"),
+    (
+        "fallocate 0 0 0 PUNCH",
+        "Call(Fallocate(Fd(0), 0, 0, Punch))",
+    ),
     ("stat /", "Call(Stat(Bytes { bytes: [47] }))"),
     ("fstat 0", "Call(Fstat(Fd(0)))"),
     (

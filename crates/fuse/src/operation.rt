@@ -6,8 +6,8 @@ ghost use Rattle.fuse.specs.Operations.{operation_in, session_operation_in};
 
 use crate::bodies::{
     access_in, batch_forget_in, copy_file_range_in, destroy_in, fallocate_in, flush_in, forget_in,
-    fsync_in, getattr_in, init_in, interrupt_in, lseek_in, open_in, opendir_in, read_in, readdir_in,
-    readlink_in, release_in, releasedir_in, setattr_in, statfs_in, write_in,
+    fsync_in, getattr_in, init_in, interrupt_in, lseek_in, open_in, opendir_in, read_in,
+    readdir_in, readlink_in, release_in, releasedir_in, setattr_in, statfs_in, write_in,
 };
 use crate::fault::{BodyFault, asked};
 use crate::named::{

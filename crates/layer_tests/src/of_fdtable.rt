@@ -110,8 +110,16 @@ fn changes_are_laid_without_memory(rt: HostRuntime) {
     drop(patch);
     let was_open = Some(Some(Num(7)));
     assert_eq!(rt; lowest, Some(Fd(2)));
-    assert_eq!(rt; former, [None, Some(None), was_open, Some(None), Some(None)]);
-    assert_open(&rt, heap, &table, &[0, 1, 130, 200, 9999, DESCRIPTORS as u32 - 1]);
+    assert_eq!(rt;
+        former,
+        [None, Some(None), was_open, Some(None), Some(None)]
+    );
+    assert_open(
+        &rt,
+        heap,
+        &table,
+        &[0, 1, 130, 200, 9999, DESCRIPTORS as u32 - 1],
+    );
     drop(table);
 }
 

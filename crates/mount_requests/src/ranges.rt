@@ -268,8 +268,15 @@ impl Tables {
         ensures answers { AnswersCopy (seen self.old) (seen self.new) hand.old.pid node handle offset
             to_handle to_offset length flags hand.old.shown hand.new.shown result }
     {
-        let copying =
-            self.plan_copy(hand.pid(), handle, offset, to_handle, to_offset, length, flags)?;
+        let copying = self.plan_copy(
+            hand.pid(),
+            handle,
+            offset,
+            to_handle,
+            to_offset,
+            length,
+            flags,
+        )?;
         self.reserve_events(node)?;
         let inode = copying.inode;
         let size = copy(

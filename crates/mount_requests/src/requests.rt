@@ -142,7 +142,9 @@ impl Tables {
                 to_offset,
                 length,
                 flags,
-            } => self.copy(hand, node, handle, offset, to_handle, to_offset, length, flags),
+            } => self.copy(
+                hand, node, handle, offset, to_handle, to_offset, length, flags,
+            ),
             _ => Err(Failure::Error(Errno::ENOSYS)),
         }
     }

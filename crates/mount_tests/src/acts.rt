@@ -5,10 +5,10 @@ ghost use Rattle.std.specs.Prelude.{◌≡◌};
 use crate::texts::{Text, owned};
 use course::{
     Again, Cut, Fault, Hand, Made, Object, Paths, Place, Twice, Update, allocate, append,
-    apply_update, begin, close, close_spare, copy, create_cut, cut_if, drop_if, end, exchange, find,
-    fork, give_up, link, list, list_at, look_nowhere, look_up, make_directory, make_link, make_node,
-    move_name, open_cut, permissions_in, read, read_link, remove_directory, seek, stat_file, unlink,
-    write,
+    apply_update, begin, close, close_spare, copy, create_cut, cut_if, drop_if, end, exchange,
+    find, fork, give_up, link, list, list_at, look_nowhere, look_up, make_directory, make_link,
+    make_node, move_name, open_cut, permissions_in, read, read_link, remove_directory, seek,
+    stat_file, unlink, write,
 };
 use heap::Heap;
 use ids::{Fd, Kind, NewOwner, Num, Owner, Rights, Space, Special, Stat, Whence};

@@ -46,7 +46,7 @@ impl Model for Index {
 fn lead_in(numbers: &mut Numbers, entry: &DirectoryEntry, number: u64)
     ensures numbers { numbers_in numbers.new
         ≡ leading entry.now number (map.get (numbers_in numbers.old) entry.now)
-            (numbers_in numbers.old) }
+        (numbers_in numbers.old) }
     ensures room { spare numbers.new ≡ spare numbers.old }
 {
     match numbers.get_mut(entry) {

@@ -160,11 +160,7 @@ impl Patches {
     }
 
     // Two names change places.
-    fn swap(
-        &mut self,
-        first: (Num, &Name, Num),
-        second: (Num, Name, Num),
-    ) -> Result<(), AllocError>
+    fn swap(&mut self, first: (Num, &Name, Num), second: (Num, Name, Num)) -> Result<(), AllocError>
         ensures ok { OnOk result ((chosen : List ℕ) → TakesIn chosen
             (Swap first.0 first.1.now first.2 second.0 second.1 second.2) self.old self.new) }
         ensures err { OnErr result (SamePatches self.old self.new) }

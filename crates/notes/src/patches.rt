@@ -185,7 +185,11 @@ impl Patches {
                 drop(bytes);
                 noted
             }
-            Edit::Wipe { file, offset, count } => self.wipe(file, offset, count),
+            Edit::Wipe {
+                file,
+                offset,
+                count,
+            } => self.wipe(file, offset, count),
             Edit::Cut { file, length, .. } => self.cut(file, length),
             Edit::Take { pipe, count } => self.take(pipe, count),
             Edit::Append { pipe, bytes } => {

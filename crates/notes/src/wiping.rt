@@ -89,12 +89,7 @@ fn wipe_first(
 }
 
 // The changes of a file of which bytes become zero.
-fn first_zeros(
-    heap: Heap,
-    fresh: bool,
-    offset: usize,
-    count: usize,
-) -> Result<Contents, AllocError>
+fn first_zeros(heap: Heap, fresh: bool, offset: usize, count: usize) -> Result<Contents, AllocError>
     requires { offset + count ≤ LARGEST_FILE }
     ensures contents { IfOk result (λ c. (o : Option Inode) → patched c o
         ≡ Some (File (written (bytes_before fresh o) offset (replicate count 0)))) }

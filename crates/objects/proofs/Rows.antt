@@ -38,13 +38,13 @@ module _ (gs : List (List Content)) (len : ℕ) (ends : EndsBy len gs) (block : 
   pub piece_hole : is_hole (piece_of gs (block / 15)).bytes (block % 15) ≡ is_hole (bytes_of gs len) block
   piece_hole = alike (is_hole (piece_of gs (block / 15)).bytes (block % 15)) (is_hole (bytes_of gs len) block)
       (λ e. zero_hole (bytes_of gs len) block (λ i is.
-          let here : (i % PIECE_LEN) / 1024 ≡ block % 15 = omega (arith, is) in
-          at_piece i is ∙ hole_zero (piece_of gs (block / 15)).bytes (block % 15) e (i % PIECE_LEN) here))
+      let here : (i % PIECE_LEN) / 1024 ≡ block % 15 = omega (arith, is) in
+      at_piece i is ∙ hole_zero (piece_of gs (block / 15)).bytes (block % 15) e (i % PIECE_LEN) here))
       (λ e. zero_hole (piece_of gs (block / 15)).bytes (block % 15) (λ j is.
-          let there : (block / 15 * PIECE_LEN + j) / 1024 ≡ block = omega (arith, is) in
-          let same : (block / 15 * PIECE_LEN + j) % PIECE_LEN ≡ j = omega (arith, is) in
-          ap (λ n. get_or (piece_of gs (block / 15)).bytes n 0) (sym same) ∙ sym (at_piece (block / 15 * PIECE_LEN + j) there)
-          ∙ hole_zero (bytes_of gs len) block e (block / 15 * PIECE_LEN + j) there))
+      let there : (block / 15 * PIECE_LEN + j) / 1024 ≡ block = omega (arith, is) in
+      let same : (block / 15 * PIECE_LEN + j) % PIECE_LEN ≡ j = omega (arith, is) in
+      ap (λ n. get_or (piece_of gs (block / 15)).bytes n 0) (sym same) ∙ sym (at_piece (block / 15 * PIECE_LEN + j) there)
+      ∙ hole_zero (bytes_of gs len) block e (block / 15 * PIECE_LEN + j) there))
 
 -- what is left of a piece where nothing stands behind the zeros, and where nothing is left
 pub wiped_cut : (from to : ℕ) (old : List ℕ) → from ≤ to → length old ≤ to → WipedIn from to old (take from old)

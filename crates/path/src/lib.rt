@@ -10,8 +10,8 @@ ghost use Rattle.model.specs.Paths.{same_name, with_first};
 ghost use Rattle.path.specs.Parsing.{IsRefusalBy, pieces_left, bytes_left};
 
 use heap::Heap;
-use ids::{Errno, Name, Refusal};
 pub use ids::NAME_LIMIT;
+use ids::{Errno, Name, Refusal};
 use smallvec::SmallVec;
 use std::marker::Model;
 

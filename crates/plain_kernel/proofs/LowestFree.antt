@@ -22,5 +22,5 @@ module _ (k : Kernel) (pid first free limit : ℕ) (is : limit ≡ limit_of k pi
   none_found taken past =
       let high : limit ≤ free = grind (arith, nat_tests) in
       sym (all_are_open k pid first (λ g from low.
-          let under : g < limit = subst (λ n. g < n) (sym is) low in
-          there (get (process_of k pid).table g) (taken g from (omega (arith, under, high)))))
+      let under : g < limit = subst (λ n. g < n) (sym is) low in
+      there (get (process_of k pid).table g) (taken g from (omega (arith, under, high)))))

@@ -111,13 +111,7 @@ impl PlainKernel {
     }
 
     // Bytes of a file become zero.
-    fn wipe(
-        &mut self,
-        heap: Heap,
-        file: Num,
-        offset: usize,
-        count: usize,
-    ) -> Result<(), AllocError>
+    fn wipe(&mut self, heap: Heap, file: Num, offset: usize, count: usize) -> Result<(), AllocError>
         requires { offset + count ≤ largest_file }
         ensures { OnOk result (self.new ≡ set_inode file
             (A_file (written (file_of self.old file) offset (replicate count 0))) self.old) }

@@ -102,10 +102,7 @@ impl Checker {
           entries = [];
         }) }
     {
-        let beginning = Beginning {
-            priorities,
-            bounds,
-        };
+        let beginning = Beginning { priorities, bounds };
         let audit = Audit::new(heap, root, &beginning)?;
         Ok(Checker {
             heap,

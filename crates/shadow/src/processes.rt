@@ -35,7 +35,13 @@ impl Stable {
         let child = Pid(self.made() as u32 + 1);
         let table = FdTable::new(heap);
         self.processes.push(Process { table, priority })?;
-        lay_table(&mut self.store, &mut self.processes, child, &mut opened, room);
+        lay_table(
+            &mut self.store,
+            &mut self.processes,
+            child,
+            &mut opened,
+            room,
+        );
         Ok(child)
     }
 

@@ -79,10 +79,7 @@ pub(crate) struct Processes {
 
 impl Drop for Processes {
     fn drop(self) {
-        let Processes {
-            list: _,
-            bounds: _,
-        } = self;
+        let Processes { list: _, bounds: _ } = self;
     }
 }
 

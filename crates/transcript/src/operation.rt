@@ -138,13 +138,7 @@ fn put_lseek<S: Sink>(out: &mut Printer<'_, S>, fd: u32, offset: i64, whence: Wh
     out.put(whence_text(whence));
 }
 
-fn put_fallocate<S: Sink>(
-    out: &mut Printer<'_, S>,
-    fd: u32,
-    offset: i64,
-    length: i64,
-    space: Space,
-)
+fn put_fallocate<S: Sink>(out: &mut Printer<'_, S>, fd: u32, offset: i64, length: i64, space: Space)
     requires { CanPrint S.failures out.old }
     ensures { Prints S.written S.failures out.old out.new
         (codes "fallocate " ++ decimal fd ++ codes " " ++ signed_decimal offset ++ codes " "

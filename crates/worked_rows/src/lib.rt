@@ -62,11 +62,11 @@ mod limits;
 #[cfg(test)]
 mod links;
 #[cfg(test)]
-mod modes;
-#[cfg(test)]
 mod long_paths;
 #[cfg(test)]
 mod many_descriptors;
+#[cfg(test)]
+mod modes;
 #[cfg(test)]
 mod moved;
 #[cfg(test)]

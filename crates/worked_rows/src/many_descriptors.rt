@@ -11,6 +11,7 @@ static OPENED: &str = "priorities 0\n1 open /a RDWR,CREAT\n";
 
 // What a reply is told as where it is no descriptor.
 const REFUSED: u32 = u32::MAX;
+
 const OTHER: u32 = u32::MAX - 1;
 
 // The descriptor that a step answers.

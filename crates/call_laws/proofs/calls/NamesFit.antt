@@ -191,15 +191,18 @@ module _ (k : Kernel) (well : WellFormed k) (pid : ℕ) (alive : IsAlive k pid) 
       allowed k Fine (is_directory what && is_below from to) EINVAL (refuse_if (is_directory other && is_below to from) EINVAL >> swapped at what onto other) (λ test.
       allowed k Fine (is_directory other && is_below to from) EINVAL (swapped at what onto other) (λ test_too.
       either_given k Fine (what.0 == other.0) (unchanged Done) (changed Done (Swap at.parent at.name what.0 onto.parent onto.name other.0 ∷ [])) (λ _. unchanged_fits k pid inside chosen Done) (λ away. record {
-        fits = λ can. (record {
-          what = kind.0;
-          other = kind_too.0;
-          first = record { parent = last.parent; gives = there.0; kind = there.1 ∙ kind.1 };
-          second = record { parent = last_onto.parent; gives = there_too.0; kind = there_too.1 ∙ kind_too.1 };
-          apart = not_same what.0 other.0 away;
-          no_ring = ring_by from to at onto what place led led_onto last_onto there.0 test;
-          no_ring_back = ring_by to from onto at other place_too led_onto led last there_too.0 test_too;
-        }, tt);
+        fits = λ can. (
+          record {
+            what = kind.0;
+            other = kind_too.0;
+            first = record { parent = last.parent; gives = there.0; kind = there.1 ∙ kind.1 };
+            second = record { parent = last_onto.parent; gives = there_too.0; kind = there_too.1 ∙ kind_too.1 };
+            apart = not_same what.0 other.0 away;
+            no_ring = ring_by from to at onto what place led led_onto last_onto there.0 test;
+            no_ring_back = ring_by to from onto at other place_too led_onto led last there_too.0 test_too;
+          },
+          tt,
+        );
         by = (tt, tt);
         there = (last.parent.directory, (last_onto.parent.directory, tt));
       })))

@@ -301,11 +301,13 @@ module _ (k : Kernel) (well : WellFormed k) where
   found_seen_from holes n from stays =
       let size : ℕ = answer k (Measure n) in
       let count : ℕ = suc ((size - 1) / block_length - from / block_length) in
-      let passed : ℕ = answer k (Pass_blocks (not holes) n (from / block_length) count) in
-      (stays, refusal k (nat_le size from) ENXIO _ (λ _.
-      append-all (IsLeft k) (shown (Pass_blocks (not holes) n (from / block_length) count) passed) (seen k (refuse_if (not holes && nat_le size (behind_blocks from passed)) ENXIO >> Give (min size (behind_blocks from passed))))
-      (each_block n stays (rising (from / block_length) (min count (suc passed))))
-      (refusal k (not holes && nat_le size (behind_blocks from passed)) ENXIO (Give (min size (behind_blocks from passed))) (λ _. tt))))
+      let passed : ℕ = answer k (Pass_blocks (not holes) n (from / block_length) count) in (
+        stays,
+        refusal k (nat_le size from) ENXIO _ (λ _.
+            append-all (IsLeft k) (shown (Pass_blocks (not holes) n (from / block_length) count) passed) (seen k (refuse_if (not holes && nat_le size (behind_blocks from passed)) ENXIO >> Give (min size (behind_blocks from passed))))
+            (each_block n stays (rising (from / block_length) (min count (suc passed))))
+            (refusal k (not holes && nat_le size (behind_blocks from passed)) ENXIO (Give (min size (behind_blocks from passed))) (λ _. tt))),
+      )
 
   sought_from_seen : (holes : Bool) (n : ℕ) (move : ℤ) → Stays k n A_file → AllLeft k (seen k (or_refuse ENXIO (offset_named move) >>= (λ from. found_from holes n from >>= (λ place. Give (pos place)))))
   sought_from_seen holes n (pos from) stays = seen_bind k (found_from holes n from) (λ place. Give (pos place)) (found_seen_from holes n from stays) (whatever (given k (found_from holes n from)) (λ _. tt))

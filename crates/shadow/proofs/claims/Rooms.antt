@@ -72,12 +72,12 @@ module _ (s m : Committed) (ps qs : List ℕ) (first : KeepsMore s m (λ c. clai
   pub may_give_up : (n : Committed) → n ≡ m → (c : Claim) → claimed_in c [] ps ≤ reserved n c
   may_give_up n same c =
       let one : reserved m c ≡ reserved s c + claimed_in c [] ps = first c in
-      let as : reserved n c ≡ reserved m c = ap (λ (v : Committed). reserved v c) same in omega arith
+      let alike : reserved n c ≡ reserved m c = ap (λ (v : Committed). reserved v c) same in omega arith
 
   pub given_up : (n t : Committed) → n ≡ m → KeepsMore t n (λ c. claimed_in c [] ps) → KeepsSame s t
   given_up n t same less c =
       let one : reserved m c ≡ reserved s c + claimed_in c [] ps = first c in
-      let as : reserved n c ≡ reserved m c = ap (λ (v : Committed). reserved v c) same in
+      let alike : reserved n c ≡ reserved m c = ap (λ (v : Committed). reserved v c) same in
       let back : reserved n c ≡ reserved t c + claimed_in c [] ps = less c in omega arith
 
 -- the directories of a call's edits, and what is kept for it

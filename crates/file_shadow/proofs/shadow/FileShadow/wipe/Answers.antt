@@ -39,7 +39,7 @@ invariant_of-self-2 c =
     let zeros : List ℕ = replicate c.args.count 0 in
     let promised = c.in_ok-promise.ensures.ok in (
       sound_written (changed_of c.prepare.new.self) c.self.inside.extent (sound_before c) (changed_of c.put_zeros.new.self) c.args.offset (end_block c.args.offset c.args.count) c.max-end.result (replicate c.args.count 0)
-    c.put_zeros.ensures.order c.put_zeros.ensures.puts (zeros_end c.args.offset c.args.count) (c.max-end.ensures ∙ ap (λ n. max c.self.inside.extent.end (c.args.offset + n)) (sym (zeros_long c.args.count))) (omega (arith, c.max-end.ensures, (sound_before c).small, c.requires)),
+          c.put_zeros.ensures.order c.put_zeros.ensures.puts (zeros_end c.args.offset c.args.count) (c.max-end.ensures ∙ ap (λ n. max c.self.inside.extent.end (c.args.offset + n)) (sym (zeros_long c.args.count))) (omega (arith, c.max-end.ensures, (sound_before c).small, c.requires)),
       c.promise.ensures.bytes ∙ c.self.invariant.1,
       λ k there. elim (changed_by mid new (sound_before c).order c.put_zeros.ensures.order c.args.offset end zeros (zeros_end c.args.offset c.args.count) c.put_zeros.ensures.puts k there) [
         | inl was ↦ roomy_more c.self.inside.set.numbers.items c.self.inside.room.rooms c.promise.new.self.rooms c.promise.ensures.room c.self.invariant.2 k (subst (λ (d : ChangedBlocks). Contains d.numbers k) c.prepare.ensures.same was)
