@@ -5,5 +5,6 @@ mod Exchanged
 mod Ranges
 mod Fixed
 mod Rights
+mod Bounds
 mod Touches
 mod Transactions
