@@ -32,7 +32,8 @@ class Place(NamedTuple):
     last: int
 
     def name(self):
-        return self.symbols[0].split("::")[-1]
+        """Returns the end of its name, by which the prover finds it: functions of two types may have one name."""
+        return "::".join(self.symbols[0].split("::")[-2:])
 
     def told(self, said):
         """Returns what a check said of it: its name, and 'proved' or 'not proved'; two empty texts where that is not known. A method that stands in
