@@ -13,6 +13,7 @@ import sys
 from typing import NamedTuple
 
 sys.dont_write_bytecode = True
+import kit
 from functions import functions_of
 
 # How many edits one check tries at most.
@@ -123,25 +124,25 @@ def joined(crate, edits):
 
 class Refusals:
     """The tries of one crate's edits, over what a check of the crate as it stands proved. `crate` is one of the kit's, whose libraries
-    below are built."""
+    below are built; in the folder `seed`, if there is one, is what checks of the crate kept elsewhere."""
 
-    def __init__(self, rt, crate, paths):
-        self.rt, self.crate, self.room, self.files = rt, crate, None, {}
+    def __init__(self, rt, crate, paths, seed=None):
+        self.rt, self.crate, self.seed, self.room, self.files = rt, crate, seed, None, {}
         edits = [read(rt, crate, it) for it in paths]
         self.alone = [it for it in edits if not it.places]
         self.rounds = rounds_of([it for it in edits if it.places])
 
     def begin(self):
         """Proves the crate, begun with what checks on this machine kept of it, and returns whether it is proved."""
-        self.room = self.rt.seeded(self.crate, ["--jobs", "1"], self.rt.work_for(self.crate))
-        self.files = self.rt.listing(f"{self.room}/seed") if self.room else {}
+        self.room = kit.seeded(self.rt, self.crate, self.seed)
+        self.files = kit.listing(f"{self.room}/seed") if self.room else {}
         return self.room is not None
 
     @contextlib.contextmanager
     def over(self, name):
         """Gives a copy of what was proved, for one check."""
         folder = f"{self.room}/{name}"
-        self.rt.linked(f"{self.room}/seed", folder)
+        kit.linked(f"{self.room}/seed", folder)
         try:
             yield folder
         finally:
@@ -168,14 +169,13 @@ class Refusals:
     def try_alone(self, edit):
         """Tries one edit as the gate does, and returns whether it is refused, and what to say."""
         with self.over(f"alone-{edit.name()}") as folder:
-            kind, text = self.rt.must_fail(self.crate, edit.path, ["--jobs", "1"], folder)
-        return kind in (self.rt.REFUSED, self.rt.AT_LIMIT), text
+            return kit.must_fail(self.rt, self.crate, edit.path, folder)
 
     def end(self):
         """Checks the functions that were changed as they stand, and returns whether all are proved, over what nothing has touched meanwhile."""
         places = {place for edits in self.rounds for it in edits for place in it.places}
         lines = self.check("as-they-stand", {}, places) if places else []
         said = [found.groups() for line in lines if (found := TOLD.match(line))]
-        is_same = self.rt.listing(f"{self.room}/seed") == self.files
+        is_same = kit.listing(f"{self.room}/seed") == self.files
         shutil.rmtree(self.room, ignore_errors=True)
         return is_same and all(it.told(said)[1] == "proved" for it in places)
