@@ -125,6 +125,11 @@ def edits_of(name):
     return sorted(CRATES.joinpath(name, "more-edits").glob("*.edit"))
 
 
+def gate_edits_of(name):
+    """Returns the edits of a crate that the gate tries, in order."""
+    return sorted(CRATES.joinpath(name, "must-fail").glob("*.edit"))
+
+
 def contract_of(name, known):
     """Returns the digest of the contracts of a crate. `known` has those that were asked for before."""
     if name not in known:

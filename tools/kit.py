@@ -23,6 +23,14 @@ def crates_of(rt, root):
     return {it.name: it for it in found}
 
 
+def crates_there(rt, root):
+    """Returns the kit's crates of the repository in the folder `root` by their names, with what was built of them left where it is. For a kit
+    that keeps nothing."""
+    rt.Crate.allowed = rt.handles_of(root)
+    rt.rtlib.Crate = rt.Crate
+    return {it.name: it for it in rt.rtlib.crates_below(root)}
+
+
 def listing(folder):
     """Returns each file below a folder, with its size and the time of its last change."""
     found = {}

@@ -10,6 +10,7 @@ import os
 import re
 import shutil
 import sys
+import tempfile
 from typing import NamedTuple
 
 sys.dont_write_bytecode = True
@@ -60,16 +61,16 @@ class Edit(NamedTuple):
     def name(self):
         return os.path.basename(self.path)
 
-    def is_refused(self, lines):
-        """Whether a check that said this refuses it for its meaning."""
+    def refusal(self, lines):
+        """Returns the line by which a check that said this refuses it for its meaning, or none."""
         said = [found.groups() for line in lines if (found := TOLD.match(line))]
         for place in self.places:
             symbol, word = place.told(said)
             if word == "not proved":
                 errors = [line for line in lines if ERROR.match(line) and place.is_at(symbol, line)]
                 if not errors or not all(map(NAMES.search, errors)):
-                    return True
-        return False
+                    return next((line for line in errors if not NAMES.search(line)), f"fn {symbol}: not proved")
+        return None
 
 
 def places_in(crate, file, new):
@@ -94,6 +95,22 @@ def read(rt, crate, path):
     texts, _ = rt.read_edit(path, crate.folder)
     parts = [places_in(crate, file, text) for file, text in (texts or {}).items()]
     return Edit(path, texts or {}, frozenset().union(*parts) if all(parts) else frozenset())
+
+
+def control_of(crate, edits):
+    """Returns the shortest function of a file that these edits change which neither they change nor calls one that they do; None where there is none."""
+    changed, found = {place for it in edits for place in it.places}, []
+    names = {it.symbols[0].split("::")[-1] for it in changed}
+    for file in sorted({it.file for it in changed}):
+        with open(f"{crate.folder}/{file}", encoding="utf-8") as it:
+            text = it.read()
+        rows = text.split("\n")
+        for it in functions_of(text):
+            place = Place(it.symbols(crate.name, file), file, it.first, it.last)
+            words = set(re.findall(r"\w+", "\n".join(rows[it.first - 1 : it.last])))
+            if place not in changed and not names & words:
+                found.append(place)
+    return min(found, key=lambda it: it.last - it.first, default=None)
 
 
 def rounds_of(edits):
@@ -128,6 +145,10 @@ class Refusals:
 
     def __init__(self, rt, crate, paths, seed=None):
         self.rt, self.crate, self.seed, self.room, self.files = rt, crate, seed, None, {}
+        # What refused an edit, by its path.
+        self.told = {}
+        # A function that no edit changes, and what the checks of edits said of it.
+        self.control, self.words = None, set()
         edits = [read(rt, crate, it) for it in paths]
         self.alone = [it for it in edits if not it.places]
         self.rounds = rounds_of([it for it in edits if it.places])
@@ -137,6 +158,17 @@ class Refusals:
         self.room = kit.seeded(self.rt, self.crate, self.seed)
         self.files = kit.listing(f"{self.room}/seed") if self.room else {}
         return self.room is not None
+
+    def begin_with_nothing(self):
+        """Begins without a proof of the crate: for one that was just proved as it stands. Each check then proves what it names from nothing, and
+        one function more, as it stands."""
+        self.room = tempfile.mkdtemp(prefix="kagzuvis-edits-")
+        os.mkdir(f"{self.room}/seed")
+        self.control = control_of(self.crate, [it for edits in self.rounds for it in edits])
+
+    def is_sound(self):
+        """Whether each check of edits has proved the function that no edit changes; else the changed functions are checked as they stand."""
+        return self.words == {"proved"} or self.end()
 
     @contextlib.contextmanager
     def over(self, name):
@@ -160,16 +192,24 @@ class Refusals:
 
     def left(self, name, edits):
         """Returns those of these edits that one check does not refuse. Where it tells of no function, one of them cannot be read, so each half is tried."""
-        lines = self.check(name, joined(self.crate, edits), {place for it in edits for place in it.places})
+        places = {place for it in edits for place in it.places}
+        lines = self.check(name, joined(self.crate, edits), places | {self.control} - {None})
         if len(edits) > 1 and not any(map(TOLD.match, lines)):
             half = len(edits) // 2
             return self.left(name, edits[:half]) + self.left(name, edits[half:])
-        return [it for it in edits if not it.is_refused(lines)]
+        if self.control:
+            self.words.add(self.control.told([found.groups() for line in lines if (found := TOLD.match(line))])[1])
+        self.told |= {it.path: line for it in edits if (line := it.refusal(lines))}
+        return [it for it in edits if it.path not in self.told]
 
     def try_alone(self, edit):
         """Tries one edit as the gate does, and returns whether it is refused, and what to say."""
         with self.over(f"alone-{edit.name()}") as folder:
             return kit.must_fail(self.rt, self.crate, edit.path, folder)
+
+    def clear(self):
+        """Removes what the tries kept."""
+        shutil.rmtree(self.room, ignore_errors=True)
 
     def end(self):
         """Checks the functions that were changed as they stand, and returns whether all are proved, over what nothing has touched meanwhile."""
@@ -177,5 +217,5 @@ class Refusals:
         lines = self.check("as-they-stand", {}, places) if places else []
         said = [found.groups() for line in lines if (found := TOLD.match(line))]
         is_same = kit.listing(f"{self.room}/seed") == self.files
-        shutil.rmtree(self.room, ignore_errors=True)
+        self.clear()
         return is_same and all(it.told(said)[1] == "proved" for it in places)
