@@ -59,16 +59,18 @@ def build_library(crate, folder):
 
 
 def seeded(rt, crate, seed):
-    """Proves a crate, and returns a folder in whose folder `seed` is what the check kept; None where the crate is not proved."""
+    """Returns a folder in whose folder `seed` is what a check of the crate kept: where the kit keeps what it has proved that of a check made now, and
+    None where the crate is not proved; else what checks left in the folder `seed`, if there is one."""
     if keeps(rt):
         return rt.seeded(crate, ["--jobs", "1"], rt.work_for(crate))
     room = tempfile.mkdtemp(prefix="kagzuvis-edits-")
-    if seed and os.path.isdir(seed):
+    if not seed or not os.path.isdir(seed):
+        os.mkdir(f"{room}/seed")
+    elif os.stat(seed).st_dev == os.stat(room).st_dev:
+        linked(seed, f"{room}/seed")
+    else:
         subprocess.run(["cp", "-a", seed, f"{room}/seed"], check=True)
-    if rt.checked(crate, {}, ["--jobs", "1"], f"{room}/seed").returncode == 0:
-        return room
-    shutil.rmtree(room, ignore_errors=True)
-    return None
+    return room
 
 
 def must_fail(rt, crate, path, folder):
