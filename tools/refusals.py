@@ -18,8 +18,10 @@ from functions import functions_of
 
 # How many edits one check tries at most.
 MOST = 24
-TOLD = re.compile(r"^fn (\S+): (proved|not proved)\b")
+# (a function has no proof where its goals are not found, or where one that it calls is not proved)
+TOLD = re.compile(r"^fn (\S+): (proved|not proved|no proof)\b")
 ERROR = re.compile(r"^(?:note: )?(?:\./)?((?:src|proofs)/\S+?):(\d+):\d+: ")
+UNKNOWN = re.compile(r"^rattle: error: .* has no function `([^`]+)`")
 # A proof file that names what an edit took away says nothing of a contract.
 NAMES = re.compile(r"has no field|is not in scope|has no `|was not admitted")
 
@@ -32,12 +34,12 @@ class Place(NamedTuple):
     first: int
     last: int
 
-    def name(self):
-        """Returns the end of its name, by which the prover finds it: functions of two types may have one name."""
-        return "::".join(self.symbols[0].split("::")[-2:])
+    def names(self):
+        """Returns the ends of these names, by one of which the prover finds it: functions of two types may have one name."""
+        return ["::".join(it.split("::")[-2:]) for it in self.symbols]
 
     def told(self, said):
-        """Returns what a check said of it: its name, and 'proved' or 'not proved'; two empty texts where that is not known. A method that stands in
+        """Returns what a check said of it: its name, and 'proved', 'not proved' or 'no proof'; two empty texts where that is not known. A method that stands in
         another file than its type is known by the end of its name."""
         ends = tuple("::" + "::".join(it.split("::")[-2:]) for it in self.symbols)
         found = [it for it in said if it[0] in self.symbols] or [it for it in said if it[0].endswith(ends)]
@@ -65,10 +67,12 @@ class Edit(NamedTuple):
         said = [found.groups() for line in lines if (found := TOLD.match(line))]
         for place in self.places:
             symbol, word = place.told(said)
-            if word == "not proved":
+            if word in ("not proved", "no proof"):
                 errors = [line for line in lines if ERROR.match(line) and place.is_at(symbol, line)]
-                if not errors or not all(map(NAMES.search, errors)):
-                    return next((line for line in errors if not NAMES.search(line)), f"fn {symbol}: not proved")
+                if found := next((line for line in errors if not NAMES.search(line)), None):
+                    return found
+                if word == "not proved" and not errors:
+                    return f"fn {symbol}: not proved"
         return None
 
 
@@ -179,10 +183,18 @@ class Refusals:
             shutil.rmtree(folder, ignore_errors=True)
 
     def check(self, name, texts, places):
-        """Checks these functions with these texts, and returns the lines of what was said."""
-        only = [word for it in sorted({it.name() for it in places}) for word in ("--only", it)]
-        with self.over(name) as folder:
-            return self.rt.checked(self.crate, texts, ["--jobs", "1", *only], folder).stdout.split("\n")
+        """Checks these functions with these texts, or all where none is given, and returns the lines of what was said. The prover says at once where
+        it knows one by another of its names, or by none, as it does of a test."""
+        names = [it.names() for it in places]
+        while names or not places:
+            only = [word for it in sorted({it[0] for it in names}) for word in ("--only", it)]
+            with self.over(name) as folder:
+                lines = self.rt.checked(self.crate, texts, ["--jobs", "1", *only], folder).stdout.split("\n")
+            unknown = {found[1] for line in lines if (found := UNKNOWN.search(line))}
+            if not unknown:
+                return lines
+            names = [left for it in names if (left := it[it[0] in unknown :])]
+        return []
 
     def unrefused(self, number):
         """Tries the edits of a round in one check, and returns those that it does not refuse for their meaning."""
