@@ -3,3 +3,4 @@ pub mod SlotTurnover
 pub mod StoredHolders
 pub mod PipePairs
 pub mod DirectoryRoom
+pub mod KindsStay
