@@ -159,10 +159,9 @@ class Refusals:
         self.rounds = rounds_of([it for it in edits if it.places])
 
     def begin(self):
-        """Begins with what checks on this machine kept of the crate, and returns whether it is proved, as far as that is asked here (kit.py)."""
+        """Begins with what checks on this machine kept of the crate."""
         self.room = kit.seeded(self.rt, self.crate, self.seed)
-        self.files = kit.listing(f"{self.room}/seed") if self.room else {}
-        return self.room is not None
+        self.files = kit.listing(f"{self.room}/seed")
 
     def with_control(self):
         """Has each check prove one function more, as it stands: for the edits of a crate that was just proved, which need no check behind them."""
