@@ -72,6 +72,11 @@ def seeded(rt, crate, seed):
     return room
 
 
+def is_kept(kept, crate):
+    """Returns whether `rt ci` has proved this text of the crate on this machine, over the libraries that were put below it."""
+    return os.path.isdir(kept.place(crate, False, kept.key(crate)))
+
+
 def must_fail(rt, crate, path, folder):
     """Tries one edit over what is in the folder, and returns whether the prover refuses it, and what to say."""
     kind, text = rt.must_fail(crate, path, ["--jobs", "1"], folder)
