@@ -211,6 +211,12 @@ class Refusals:
         self.told |= {it.path: line for it in edits if (line := it.refusal(lines))}
         return [it for it in edits if it.path not in self.told]
 
+    def fill(self):
+        """Checks the whole crate as it stands, so that each edit that is tried alone begins with that, and returns whether it is proved."""
+        is_proved = not self.rt.checked(self.crate, {}, ["--jobs", "1"], f"{self.room}/seed").returncode
+        self.files = kit.listing(f"{self.room}/seed")
+        return is_proved
+
     def try_alone(self, edit):
         """Tries one edit as the gate does, and returns whether it is refused, and what to say."""
         self.is_whole = True
