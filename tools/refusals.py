@@ -234,5 +234,4 @@ class Refusals:
         lines = self.check("as-they-stand", {}, set() if self.is_whole else places)
         said = [found.groups() for line in lines if (found := TOLD.match(line))]
         is_same = kit.listing(f"{self.room}/seed") == self.files
-        self.clear()
         return is_same and (any(it.startswith("logic=proved") for it in lines) if self.is_whole else all(it.told(said)[1] == "proved" for it in places))
