@@ -123,26 +123,25 @@ class Walk:
         if before is None or after is None:
             self.changes.append(Change(path, before, after, has_bytes=stat.S_ISREG((before or after).st_mode)))
             return
-        ways = list(self.ways(before, after))
         was, now = kind_of(before), kind_of(after)
-        has_bytes = False
         if was != now:
-            ways.insert(0, differ(b"kind", was, now))
-            has_bytes = b"file" in (was, now)
-        elif was == b"link":
+            # It is another object, of which nothing more is told.
+            self.changes.append(Change(path, before, after, [differ(b"kind", was, now)], b"file" in (was, now)))
+            return
+        has_bytes = was == b"file" and self.has_other_bytes(path, before, after)
+        ways = [b"content"] if has_bytes else []
+        if was == b"link":
             now, was = self.target(self.view, path), self.target(self.plain, path)
             if now != was:
-                ways.insert(0, differ(b"target", shown(was), shown(now)))
-        elif was == b"file" and self.has_other_bytes(path, before, after):
-            ways.insert(0, b"content")
-            has_bytes = True
+                ways.append(differ(b"target", shown(was), shown(now)))
+        ways += self.rights(before, after)
         if ways:
             self.changes.append(Change(path, before, after, ways, has_bytes))
 
-    def ways(self, before, after):
-        """Returns what is told of permissions and of the owner, where they are others. Those of a link say nothing."""
+    def rights(self, before, after):
+        """Returns what is told of permissions and of the owner, where they are others."""
         was, now = stat.S_IMODE(before.st_mode), stat.S_IMODE(after.st_mode)
-        if was != now and not stat.S_ISLNK(after.st_mode):
+        if was != now:
             yield differ(b"permissions", b"%03o" % was, b"%03o" % now)
         was, now = (before.st_uid, before.st_gid), (after.st_uid, after.st_gid)
         if was != now:
