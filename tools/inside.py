@@ -239,9 +239,16 @@ class Running:
         return self.status
 
 
-def run(transaction, words, signals, kill_after, changed=None):
-    """Runs a command in a transaction and returns its status, when nothing of it is left. `changed` is put into its environment."""
-    environment = dict(os.environ, KAGZUVIS_TRANSACTION=transaction.name, **(changed or {}))
-    return Running(start(transaction, words, environment, signals.mask), signals, kill_after).wait()
+def environment(changed):
+    """Returns what this process was given as its environment, with these changes: where that names no locale, Python has put one
+    into os.environ."""
+    with open("/proc/self/environ", "rb") as file:
+        pairs = [pair.partition(b"=") for pair in file.read().split(b"\0")]
+    found = {name: value for name, equals, value in reversed(pairs) if equals}
+    return {**found, **{os.fsencode(name): os.fsencode(value) for name, value in changed.items()}}
 
 
+def run(transaction, words, signals, kill_after, changed):
+    """Runs a command in a transaction, with these changes of the environment, and returns its status when nothing of it is left."""
+    child = start(transaction, words, environment({"KAGZUVIS_TRANSACTION": transaction.name, **changed}), signals.mask)
+    return Running(child, signals, kill_after).wait()

@@ -147,7 +147,7 @@ class Runs:
     def __init__(self, words, signals):
         self.words, self.signals, self.report = words, signals, None
         self.tree = os.path.realpath(words.tree)
-        self.has_terminal = not words.command and os.tcgetpgrp(0) == os.getpgrp()
+        self.has_terminal = not words.command and is_in_foreground()
 
     def run(self):
         """Tries until a try does not lose, or no more are to be made. Returns the status."""
@@ -306,14 +306,23 @@ def shell_of(transaction):
     return [shell], {"PS1": f"{mark}{'#' if os.geteuid() == 0 else '$'} "}
 
 
+def is_in_foreground():
+    """Whether the terminal is this process's, and those of its group."""
+    try:
+        return os.tcgetpgrp(0) == os.getpgrp()
+    except OSError:
+        return False
+
+
 def take_terminal():
     """Takes the terminal back, where a shell that was killed has left it to processes that are gone."""
-    try:
-        if os.tcgetpgrp(0) != os.getpgrp():
-            signal.pthread_sigmask(signal.SIG_BLOCK, {signal.SIGTTOU})
+    if not is_in_foreground():
+        signal.pthread_sigmask(signal.SIG_BLOCK, {signal.SIGTTOU})
+        try:
             os.tcsetpgrp(0, os.getpgrp())
-    except OSError:
-        pass
+        except OSError:
+            # It is gone, as is told by the read that follows.
+            pass
 
 
 def write(report):
@@ -374,7 +383,9 @@ def main(arguments):
         try:
             status = work(words, parent)
         except OSError as error:
-            say(f"{why(error)}")
+            say(why(error))
+        except Exception as error:
+            say(f"{type(error).__name__}: {error}")
         finally:
             os._exit(status)
     status = pass_on(worker)
