@@ -17,6 +17,8 @@ from transaction import why
 CLONE_NEWNS, CLONE_NEWUSER = 0x00020000, 0x10000000
 MS_BIND, MS_REC, MS_PRIVATE = 0x1000, 0x4000, 0x40000
 PR_SET_PDEATHSIG, PR_SET_CHILD_SUBREAPER = 1, 36
+# How long a process may outlive the command before it is told of: some end with it, but a little later.
+QUIET = 0.1
 # How long those that are ended have before they are killed, how often they are looked for then, and how long until they are left.
 GRACE, EACH, STUCK = 2, 0.1, 10
 # How many processes are told by name, and how long the words may be that are told of what could not be started.
@@ -179,8 +181,8 @@ class Running:
 
     def __init__(self, child, signals, kill_after):
         self.child, self.signals, self.kill_after = child, signals, kill_after
-        # Its status once it has ended, and when those that are left then are ended and killed.
-        self.status, self.end_at, self.kill_at, self.killed_at = None, None, None, None
+        # Its status once it has ended, and when those that are left then are told of, ended and killed.
+        self.status, self.tell_at, self.end_at, self.kill_at, self.killed_at = None, None, None, None, None
         signals.target, signals.passed = child, {}
 
     def reap(self):
@@ -195,13 +197,14 @@ class Running:
             if process == self.child:
                 self.status = 128 + os.WTERMSIG(status) if os.WIFSIGNALED(status) else os.WEXITSTATUS(status)
                 self.signals.target = None
-                self.tell_left()
+                self.tell_at = time.monotonic() + QUIET
+                if self.kill_after is not None:
+                    self.end_at = time.monotonic() + self.kill_after
 
     def tell_left(self):
-        """Tells which processes outlive the command, and says when they are ended."""
+        """Tells which processes outlive the command."""
         left = processes_below(os.getpid())
-        if self.kill_after is not None:
-            self.end_at = time.monotonic() + self.kill_after
+        self.tell_at = None
         if left and self.signals.first is None:
             names = ", ".join(f"{name} ({process})" for process, name in sorted(left.items())[:SHOWN])
             more = f" and {len(left) - SHOWN} more" if len(left) > SHOWN else ""
@@ -219,7 +222,10 @@ class Running:
     def end_left(self, now):
         """Ends and kills what is to be ended by now. Returns how long to wait for something to happen, None where that is for ever."""
         self.plan(now)
-        if self.end_at is not None and self.end_at <= now and self.kill_at is None:
+        is_ended = self.end_at is not None and self.end_at <= now
+        if self.tell_at is not None and (is_ended or self.tell_at <= now):
+            self.tell_left()
+        if is_ended and self.kill_at is None:
             send(signal.SIGTERM)
             self.kill_at = now + GRACE
         if self.kill_at is not None and self.kill_at <= now:
@@ -228,8 +234,8 @@ class Running:
                 raise NotEnded(f"{len(processes_below(os.getpid()))} processes of the command cannot be ended")
             send(signal.SIGKILL)
             return EACH
-        until = self.end_at if self.kill_at is None else self.kill_at
-        return None if until is None else until - now
+        untils = [it for it in (self.tell_at, self.end_at if self.kill_at is None else self.kill_at) if it is not None]
+        return min(untils) - now if untils else None
 
     def wait(self):
         """Waits for the command and all that outlives it. Returns the command's status as a shell has it."""
