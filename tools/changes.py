@@ -44,6 +44,14 @@ def differ(name, before, after):
     return b"%s %s -> %s" % (name, before, after)
 
 
+def read(file, count):
+    """Returns so many bytes of a file, fewer only at its end. No more are asked for, since a mount makes room for all that is."""
+    found = b""
+    while len(found) < count and (piece := file.read(count - len(found))):
+        found += piece
+    return found
+
+
 class Change:
     """A path that has changed: how it was and is, as told by lstat, None where it is not there; and in which ways it has."""
 
@@ -154,14 +162,15 @@ class Walk:
             return True
         if (before.st_ino, before.st_mtime_ns, before.st_ctime_ns) == (after.st_ino, after.st_mtime_ns, after.st_ctime_ns):
             return False
+        left = after.st_size
         with open(self.at(self.view, path), "rb", buffering=0) as now, open(self.at(self.plain, path), "rb", buffering=0) as was:
-            while True:
-                piece = now.read(PIECE)
-                if piece != was.read(PIECE):
-                    return True
-                if not piece:
-                    return False
+            while left > 0:
                 self.signals.check()
+                piece = read(now, min(left, PIECE))
+                if piece != read(was, len(piece)) or not piece:
+                    return True
+                left -= len(piece)
+        return False
 
 
 class Report:
@@ -184,8 +193,8 @@ class Report:
             return b""
         if status.st_size > LONGEST:
             return None
-        with open(self.walk.at(top, path), "rb") as file:
-            return file.read(LONGEST)
+        with open(self.walk.at(top, path), "rb", buffering=0) as file:
+            return read(file, status.st_size)
 
     def label(self, status, path):
         """Returns the name of one side, with its time as diff has it."""
