@@ -16,17 +16,15 @@
 
 /* What stands at the front of the name of each view that a client begins, in each language. */
 #define FRONT "client-"
-/* The numbers of the root of a tree and of its directory of transactions; more bytes than a state is told by; and the first pause
- * before a function is run again, and the longest, in nanoseconds. */
-enum { ROOT = 1, TRANSACTIONS = 2, STATE_LIMIT = 4096, FIRST_PAUSE = 1000000, LONGEST_PAUSE = 100000000 };
+/* The numbers of the root of a tree and of its directory of transactions; more bytes than a state is told by; on how many trees a thread
+ * may have transactions; and the first pause before a function is run again, and the longest, in nanoseconds. */
+enum { ROOT = 1, TRANSACTIONS = 2, STATE_LIMIT = 4096, MOST_BEGUN = 64, FIRST_PAUSE = 1000000, LONGEST_PAUSE = 100000000 };
 
-/* A transaction that its thread has not ended, and of how many trees a thread may have some. */
+/* A transaction that its thread has not ended. */
 struct begun {
     pid_t owner;
     dev_t device;
 };
-enum { MOST_BEGUN = 64 };
-
 static pthread_once_t key_once = PTHREAD_ONCE_INIT;
 static pthread_key_t key;
 static int key_failed;
@@ -457,8 +455,8 @@ enum kagzuvis_mount_error kagzuvis_mount_run(const char *tree, const struct kagz
 
 /* ---- What dead processes have left ---- */
 
-/* Whether nobody has a view's lock any more; then it is taken away, if it is to go. The lock goes with the last process that has its
- * descriptor, so no number of a process is asked for, which another one may have by now. */
+/* Whether nobody has a view's lock any more, or -1; then it is taken away, if it is to go. The lock goes with the last process that has
+ * its descriptor, so no number of a process is asked for, which another one may have by now. */
 static int is_abandoned(const char *path, int gives_up)
 {
     char control[4096 + 256 + 4];
@@ -467,8 +465,10 @@ static int is_abandoned(const char *path, int gives_up)
     snprintf(control, sizeof control, "%s.ctl", path);
     descriptor = open(control, O_RDONLY | O_CLOEXEC);
     if (descriptor < 0)
-        return 0;
-    found = flock(descriptor, LOCK_EX | LOCK_NB) == 0 && (!gives_up || rmdir(path) == 0);
+        return errno == ENOENT ? 0 : -1;
+    found = flock(descriptor, LOCK_EX | LOCK_NB) == 0;
+    if (found ? gives_up && rmdir(path) != 0 && errno != ENOENT : errno != EWOULDBLOCK)
+        found = -1;
     close(descriptor);
     return found;
 }
@@ -481,19 +481,19 @@ enum kagzuvis_mount_error kagzuvis_mount_abandoned(const char *tree, int gives_u
     DIR *directory;
     struct dirent *entry;
     enum kagzuvis_mount_error error = find_tree(tree, path, 4096, &length, &device);
+    int found;
 
-    if (error != KAGZUVIS_MOUNT_OK)
-        return error;
-    directory = opendir(path);
-    if (directory == NULL)
-        return fault(errno, path);
-    length = strlen(path);
-    while ((entry = readdir(directory)) != NULL) {
-        snprintf(path + length, sizeof path - length, "/%s", entry->d_name);
+    if (error != KAGZUVIS_MOUNT_OK || (directory = opendir(path)) == NULL)
+        return error != KAGZUVIS_MOUNT_OK ? error : fault(errno, path);
+    while (error == KAGZUVIS_MOUNT_OK && (entry = readdir(directory)) != NULL) {
+        snprintf(path + length, sizeof path - length, "/.tx/%s", entry->d_name);
         /* With .ctl behind it the name of such a file gives none. */
-        if (strncmp(entry->d_name, FRONT, strlen(FRONT)) == 0 && is_abandoned(path, gives_up) && visitor != NULL)
+        found = strncmp(entry->d_name, FRONT, strlen(FRONT)) == 0 ? is_abandoned(path, gives_up) : 0;
+        if (found < 0)
+            error = fault(errno, tree);
+        else if (found && visitor != NULL)
             visitor(entry->d_name, argument);
     }
     closedir(directory);
-    return KAGZUVIS_MOUNT_OK;
+    return error;
 }

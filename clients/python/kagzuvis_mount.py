@@ -419,9 +419,13 @@ def give_up_abandoned(tree):
 
 
 def _find_abandoned(tree, is_to_go):
-    within = os.path.join(_find_tree(tree)[0], ".tx")
-    names = (name for name in sorted(os.listdir(within)) if name.startswith(FRONT) and not name.endswith(".ctl"))
-    return [name for name in names if _is_abandoned(os.path.join(within, name), is_to_go)]
+    tree, _ = _find_tree(tree)
+    try:
+        # With .ctl behind it the name of such a file gives none.
+        names = (name for name in sorted(os.listdir(f"{tree}/.tx")) if name.startswith(FRONT))
+        return [name for name in names if _is_abandoned(f"{tree}/.tx/{name}", is_to_go)]
+    except OSError as error:
+        raise _fault(error, tree) from error
 
 
 def _is_abandoned(path, is_to_go):

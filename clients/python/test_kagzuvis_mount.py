@@ -46,6 +46,12 @@ def status_of(child):
     return os.waitpid(child, 0)[1]
 
 
+def die(name):
+    with transaction(TREE) as tree:
+        (tree / "place" / name).mkdir()
+        os.kill(os.getpid(), signal.SIGKILL)
+
+
 class TestCase(unittest.TestCase):
     def setUp(self):
         self.assertEqual(views(), [])
@@ -89,7 +95,7 @@ class Blocks(TestCase):
                 with transaction(TREE) as tree:
                     (tree / "place" / "file").write_text("text")
                     raise error
-            self.assertEqual((tree.state(), os.listdir(self.place), views()), (State("given up", None), [], []))
+            self.assertEqual((tree.state().word, os.listdir(self.place), views()), ("given up", [], []))
 
     def test_it_is_given_up(self):
         with transaction(TREE) as tree:
@@ -124,9 +130,8 @@ class Blocks(TestCase):
         subprocess.run([sys.executable, "-c", program, TREE], check=True, cwd=pathlib.Path(__file__).parent)
 
     def test_arguments(self):
-        for wrong in {"retries": 1}, {"priority": 8}, {"priority": -1}:
-            self.assertRaises(ValueError, transaction, TREE, **wrong)
-        self.assertRaises(TypeError, transaction, TREE, priority=1.0)
+        for error, wrong in (ValueError, {"retries": 1}), (ValueError, {"priority": 8}), (TypeError, {"priority": 1.0}):
+            self.assertRaises(error, transaction, TREE, **wrong)
         self.assertRaises(ValueError, kagzuvis_mount.run, TREE, print, retries=-1)
         with transaction(TREE, priority=7) as tree:
             self.assertTrue(tree.path.endswith(".p7"))
@@ -361,14 +366,15 @@ class Faults(TestCase):
         def work():
             os.setgid(65534)
             os.setuid(65534)
-            try:
-                transaction(TREE).__enter__()
-            except NotAllowed:
-                return True
+            self.assertRaises(NotAllowed, transaction(TREE).__enter__)
+            self.assertRaises(NotAllowed, kagzuvis_mount.give_up_abandoned, TREE)
+            return True
 
         # In a namespace of one's own there may be no other user.
         if "4294967295" in pathlib.Path("/proc/self/uid_map").read_text().split():
+            status_of(fork(die, "half"))
             self.assertEqual(status_of(fork(work)), 0)
+            self.assertEqual(len(kagzuvis_mount.give_up_abandoned(TREE)), 1)
 
     def test_descriptors_that_are_short(self):
         held = []
@@ -388,15 +394,10 @@ class Faults(TestCase):
 
 class Killed(TestCase):
     def test_what_is_left_is_found_and_given_up(self):
-        def work(name):
-            tree = transaction(TREE).__enter__()
-            (tree / "place" / name).mkdir()
-            os.kill(os.getpid(), signal.SIGKILL)
-
-        status_of(fork(work, "half"))
+        status_of(fork(die, "half"))
         with transaction(TREE) as tree:
             left = [name for name in views() if name != os.path.basename(tree)]
-            self.assertEqual((len(left), kagzuvis_mount.abandoned(TREE)), (1, left))
+            self.assertEqual((1, left), (len(left), kagzuvis_mount.abandoned(TREE)))
             self.assertEqual((kagzuvis_mount.give_up_abandoned(TREE), tree.state()), (left, LIVE))
             self.assertEqual(kagzuvis_mount.give_up_abandoned(TREE), [])
         self.assertEqual(os.listdir(self.place), [])
