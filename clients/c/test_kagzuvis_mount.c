@@ -78,8 +78,10 @@ static void check_cause(const struct kagzuvis_mount_cause *cause)
 {
     char text[64];
 
-    CHECK(strcmp(cause->aspect, "size") == 0 && !cause->write && cause->other > 0 && *cause->name == '\0');
-    snprintf(text, sizeof text, "size read by P%u", (unsigned)cause->other);
+    /* By a write in a namespace of one's own, rights go before the length does. */
+    CHECK(strcmp(cause->aspect, "size") == 0 || strcmp(cause->aspect, "rights") == 0);
+    CHECK(!cause->write && cause->other > 0 && *cause->name == '\0');
+    snprintf(text, sizeof text, "%s read by P%u", cause->aspect, (unsigned)cause->other);
     CHECK(strcmp(cause->text, text) == 0);
 }
 

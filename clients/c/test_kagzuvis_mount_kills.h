@@ -89,17 +89,22 @@ static int is_whole(int number)
 static void test_kills(void)
 {
     unsigned seed = (unsigned)time(NULL) ^ (unsigned)getpid() << 16;
-    double started = now(), usual;
-    int first, whole = 0;
+    double started = now(), most;
+    int first, before, found = AT_ONCE, whole = 0;
 
     printf("test_kagzuvis_mount.c: seed %u\n", seed);
     fflush(stdout);
     srand(seed);
     CHECK(mkdir(below(tree, "place"), 0777) == 0);
     kill_some(KILLS, 0);
-    usual = now() - started;
-    for (first = 0; first < KILLS; first += AT_ONCE)
-        kill_some(first, usual * 0.6);
+    most = now() - started;
+    for (first = 0; first < KILLS; first += AT_ONCE) {
+        kill_some(first, most);
+        before = found;
+        found = names_in(below(tree, "place"));
+        /* So that about as many are whole as not. */
+        most *= found - before > AT_ONCE / 2 ? 0.8 : 1.25;
+    }
     CHECK(views() == 0);
     for (first = 0; first < KILLS; first++)
         whole += is_whole(first);

@@ -132,8 +132,10 @@ impl Tests {
             assert_eq!(fs::create_dir(view.join("more")).expect_err("it has lost").raw_os_error(), Some(125));
             let Err(Error::Lost(cause)) = view.end() else { panic!("the end tells a loss") };
             let touch = cause.touch.expect("it is told");
-            assert_eq!((&touch.aspect, touch.write), (&Aspect::Named("size".into()), false));
-            assert_eq!(cause.text, format!("size read by P{}", touch.other));
+            let Aspect::Named(aspect) = touch.aspect else { panic!("it is neither an entry nor a block") };
+            // By a write in a namespace of one's own, rights go before the length does.
+            assert!(!touch.write && ["size", "rights"].contains(&aspect.as_str()));
+            assert_eq!(cause.text, format!("{aspect} read by P{}", touch.other));
         }
         let view = self.begin();
         self.lose(&view)?;
@@ -314,9 +316,13 @@ impl Tests {
         fs::create_dir(self.tree.join("place"))?;
         let started = Instant::now();
         self.kill_some(KILLS, None, &mut chance)?;
-        let usual = started.elapsed();
+        let (mut most, mut found) = (started.elapsed(), AT_ONCE);
         for first in (0..KILLS).step_by(AT_ONCE) {
-            self.kill_some(first, Some(usual.mul_f64(0.8)), &mut chance)?;
+            self.kill_some(first, Some(most), &mut chance)?;
+            let before = found;
+            found = fs::read_dir(self.tree.join("place"))?.count();
+            // So that about as many are whole as not.
+            most = most.mul_f64(if found - before > AT_ONCE / 2 { 0.8 } else { 1.25 });
         }
         assert_eq!(self.views(), 0);
         let mut whole = 0;
