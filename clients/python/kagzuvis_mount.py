@@ -285,8 +285,11 @@ class View(os.PathLike):
             raise Ended(self._last)
 
     def give_up(self):
-        """Gives the transaction up here. Its block then ends without an error."""
+        """Gives the transaction up here. Its block then ends without an error, though the transaction may have lost before."""
+        is_over = self._last is not None
         self._finish(False)
+        if not is_over:
+            self._error = None
 
     def _is_open_here(self, device):
         is_here = self._owner == os.getpid() and self._thread == threading.get_ident()

@@ -18,7 +18,7 @@ import time
 import unittest
 
 import kagzuvis_mount
-from kagzuvis_mount import Cause, Ended, Forked, GivenUp, Lost, Nested, NotAllowed, NotMounted, State, Unmounted, transaction
+from kagzuvis_mount import Cause, Ended, Forked, GivenUp, Lost, Nested, NotAllowed, NotMounted, State, Unmounted, View, transaction
 
 TREE = None
 HERE = pathlib.Path(os.path.realpath(__file__)).parent
@@ -123,9 +123,7 @@ class Blocks(TestCase):
         self.assertEqual(sorted(os.listdir(self.place)), ["file", "more"])
 
     def test_a_block_that_is_never_left(self):
-        tree = transaction(TREE).__enter__()
-        self.assertEqual(len(views()), 1)
-        del tree
+        self.assertEqual((transaction(TREE).__enter__(), len(views()))[1], 1)
         self.assertEqual(views(), [])
         program = "import sys, kagzuvis_mount as k; t = k.transaction(sys.argv[1]); v = t.__enter__(); (v / 'place' / 'x').mkdir()"
         subprocess.run([sys.executable, "-c", program, TREE], check=True, cwd=HERE)
@@ -205,9 +203,13 @@ class Losses(TestCase):
                 with transaction(TREE) as tree:
                     self.lose(tree)
                     raise error
-        with transaction(TREE) as tree:
-            self.lose(tree)
-            raise GivenUp
+        for call in self.give_up, View.give_up:
+            with transaction(TREE) as tree:
+                self.lose(tree)
+                call(tree)
+
+    def give_up(self, tree):
+        raise GivenUp
 
     def test_it_is_run_again(self):
         turns = []
@@ -238,11 +240,7 @@ class Losses(TestCase):
         raise error(kagzuvis_mount.parse_cause("of another transaction"))
 
     def test_a_run_that_gives_up(self):
-        def work(tree):
-            (tree / "place" / "new").mkdir()
-            raise GivenUp
-
-        self.assertIsNone(kagzuvis_mount.run(TREE, work))
+        self.assertIsNone(kagzuvis_mount.run(TREE, self.give_up))
         self.assertEqual(os.listdir(self.place), ["file"])
 
     def test_causes(self):
@@ -330,8 +328,8 @@ class Forks(TestCase):
 
         block = transaction(TREE)
         with block as tree:
-            others = [lambda: os.execvp("true", ["true"]), lambda: os._exit(0), lambda: os.kill(os.getpid(), signal.SIGKILL)]
-            for work in falls_through, raises, ends, writes, *others:
+            others = (lambda: os.execvp("true", ["true"])), (lambda: os._exit(0)), (lambda: os.kill(os.getpid(), signal.SIGKILL))
+            for work in (falls_through, raises, ends, writes) + others:
                 self.assertIn(status_of(fork(work)), (0, signal.SIGKILL), work)
                 self.assertEqual(tree.state(), LIVE)
         self.assertEqual(os.listdir(self.place), ["child"])
