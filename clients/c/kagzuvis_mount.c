@@ -297,29 +297,27 @@ enum kagzuvis_mount_error kagzuvis_mount_begin(struct kagzuvis_mount_view *view,
     view->control = view->directory = -1;
     view->owner = getpid();
     view->thread = pthread_self();
-    view->is_over = 1;
     view->last = KAGZUVIS_MOUNT_IS_GONE;
-    view->error = priority < 0 || priority > 7 ? KAGZUVIS_MOUNT_MISUSED : find_tree(tree, view->path, sizeof view->path,
-        &view->tree_length, &view->device);
-    if (view->error == KAGZUVIS_MOUNT_OK)
-        view->error = note_begun(view);
-    if (view->error != KAGZUVIS_MOUNT_OK)
-        return view->error;
-    snprintf(path, sizeof path, "%.*s", (int)view->tree_length, view->path);
-    do
-        error = make_view(view, path, priority);
-    while (error == TAKEN_AWAY);
+    error = priority < 0 || priority > 7 ? KAGZUVIS_MOUNT_MISUSED : find_tree(tree, view->path, sizeof view->path, &view->tree_length,
+        &view->device);
     if (error == KAGZUVIS_MOUNT_OK)
-        view->is_over = 0;
-    else
-        forget_begun(view);
+        error = note_begun(view);
+    if (error == KAGZUVIS_MOUNT_OK) {
+        snprintf(path, sizeof path, "%.*s", (int)view->tree_length, view->path);
+        do
+            error = make_view(view, path, priority);
+        while (error == TAKEN_AWAY);
+        if (error != KAGZUVIS_MOUNT_OK)
+            forget_begun(view);
+    }
+    view->is_over = error != KAGZUVIS_MOUNT_OK;
     view->error_number = errno;
     return view->error = error;
 }
 
 enum kagzuvis_mount_state kagzuvis_mount_state(struct kagzuvis_mount_view *view)
 {
-    static const char *const words[] = {"live", "aborted", "committed", "given up"};
+    static const char *const words[] = {"live", "aborted ", "committed", "given up"};
     char text[STATE_LIMIT];
     ssize_t count;
     int state = KAGZUVIS_MOUNT_IS_LIVE;
@@ -332,7 +330,7 @@ enum kagzuvis_mount_state kagzuvis_mount_state(struct kagzuvis_mount_view *view)
     while (state < KAGZUVIS_MOUNT_IS_GONE && strncmp(text, words[state], strlen(words[state])) != 0)
         state++;
     if (state == KAGZUVIS_MOUNT_IS_ABORTED)
-        kagzuvis_mount_parse_cause(&view->cause, text + strlen("aborted "));
+        kagzuvis_mount_parse_cause(&view->cause, text + strlen(words[state]));
     return (enum kagzuvis_mount_state)state;
 }
 

@@ -115,7 +115,7 @@ struct kagzuvis_mount_options {
 struct kagzuvis_mount_report {
     int returned;                        /* what the function has returned the last time */
     unsigned attempts;                   /* how often a transaction was begun */
-    struct kagzuvis_mount_cause cause;   /* why the last one has lost, if it has */
+    struct kagzuvis_mount_cause cause;   /* of the last loss, if there was one */
 };
 
 /* Runs a function in a transaction, and again in a new one where that has lost, whatever the function has returned; before each new one
