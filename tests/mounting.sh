@@ -4,7 +4,7 @@
 kit=$room/kit
 mkdir -p "$kit/tools" "$kit/crates/txfs/out"
 cp "$top/mount" "$top/mount.fuse.kagzuvis" "$top/txrun" "$kit"
-cp "$top/tools/shared.sh" "$top/tools/by_fusermount.py" "$kit/tools"
+cp "$top/tools/"{shared.sh,by_fusermount.py,txrun.py,inside.py,signals.py,changes.py,transaction.py} "$kit/tools"
 # It is the program that serves the tree on $mnt.
 program=$(pgrep -P "$!" -x txfs) && cp "/proc/$program/exe" "$kit/crates/txfs/out/txfs" ||
     { echo "$test: no program serves $mnt" >&2 && exit 1; }
