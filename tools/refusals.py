@@ -62,18 +62,20 @@ class Edit(NamedTuple):
     def name(self):
         return os.path.basename(self.path)
 
-    def refusal(self, lines):
-        """Returns the line by which a check that said this refuses it for its meaning, or none."""
-        said = [found.groups() for line in lines if (found := TOLD.match(line))]
+    def refusals(self, lines):
+        """Returns the line by which a check that said this refuses it for its meaning, or none; and one that refuses it only for a name in a proof
+        file that it takes away, or none."""
+        said, by_name = [found.groups() for line in lines if (found := TOLD.match(line))], None
         for place in self.places:
             symbol, word = place.told(said)
             if word in ("not proved", "no proof"):
                 errors = [line for line in lines if ERROR.match(line) and place.is_at(symbol, line)]
                 if found := next((line for line in errors if not NAMES.search(line)), None):
-                    return found
+                    return found, None
                 if word == "not proved" and not errors:
-                    return f"fn {symbol}: not proved"
-        return None
+                    return f"fn {symbol}: not proved", None
+                by_name = by_name or next(iter(errors), None)
+        return None, by_name
 
 
 def places_in(crate, file, new):
@@ -148,8 +150,8 @@ class Refusals:
 
     def __init__(self, rt, crate, paths, seed=None):
         self.rt, self.crate, self.seed, self.room, self.files = rt, crate, seed, None, {}
-        # What refused an edit, by its path.
-        self.told = {}
+        # What refused an edit, by its path; and what refuses it only for a name that it takes away from a proof file, which says little of a contract.
+        self.told, self.by_name = {}, {}
         # A function that no edit changes, and what the checks of edits said of it.
         self.control, self.words = None, set()
         # Whether a check of the whole crate has refused an edit, or not.
@@ -208,7 +210,10 @@ class Refusals:
             return self.left(name, edits[:half]) + self.left(name, edits[half:])
         if self.control:
             self.words.add(self.control.told([found.groups() for line in lines if (found := TOLD.match(line))])[1])
-        self.told |= {it.path: line for it in edits if (line := it.refusal(lines))}
+        for it in edits:
+            told, by_name = it.refusals(lines)
+            self.told |= {it.path: told} if told else {}
+            self.by_name |= {it.path: by_name} if by_name else {}
         return [it for it in edits if it.path not in self.told]
 
     def fill(self):
