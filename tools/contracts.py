@@ -1,4 +1,4 @@
-"""A digest of what the tries of a crate's edits rest on: the crate's text, and the contracts of the crates below it.
+"""A digest of what the tries of a crate's edits rest on, and the proof of a crate of tests: the crate's text, and the contracts of the crates below it.
 
 Above a crate its proofs read the statements alone, so of the crates below count the definitions (specs/) and the code without the
 bodies of its functions and without comments.
@@ -125,6 +125,11 @@ def edits_of(name):
     return sorted(CRATES.joinpath(name, "more-edits").glob("*.edit"))
 
 
+def gate_edits_of(name):
+    """Returns the edits of a crate that the gate tries, in order."""
+    return sorted(CRATES.joinpath(name, "must-fail").glob("*.edit"))
+
+
 def contract_of(name, known):
     """Returns the digest of the contracts of a crate. `known` has those that were asked for before."""
     if name not in known:
@@ -138,7 +143,7 @@ def contract_of(name, known):
 
 
 def digest_of(name, known):
-    """Returns the digest of all that the tries of a crate's edits rest on."""
+    """Returns the digest of all that the tries of a crate's edits rest on; of a crate without edits, all that its proof rests on."""
     lines = lines_of_crates()
     sum = hashlib.sha256(lines[name][1].encode())
     for file in [*files_of(name, PARTS), *edits_of(name)]:
@@ -153,10 +158,25 @@ def record_of(name):
     return CRATES.joinpath(name, "more-edits", "refused")
 
 
+def proof_of(name):
+    """Returns the file that tells that a crate of tests was proved."""
+    return CRATES.joinpath(name, "proved")
+
+
+def why_anew(name, record, what, known):
+    """Returns why a record does not hold, or '' where it is of all as it stands now. `what` is what it tells."""
+    if not record.is_file():
+        return f"no record says that {what}"
+    found = re.search(r"^sha256 (\w+)$", record.read_text(), re.M)
+    is_same = found and found[1] == digest_of(name, known)
+    return "" if is_same else f"the crate's text, or a contract below it, is another than when {what}"
+
+
 def why_to_try(name, known):
     """Returns why a crate's edits have to be tried, or '' where they were refused as all stands now."""
-    if not record_of(name).is_file():
-        return "no record says that they were refused"
-    found = re.search(r"^sha256 (\w+)$", record_of(name).read_text(), re.M)
-    is_same = found and found[1] == digest_of(name, known)
-    return "" if is_same else "the crate's text, or a contract below it, is another than when they were refused"
+    return why_anew(name, record_of(name), "they were refused", known)
+
+
+def why_to_prove(name, known):
+    """Returns why a crate of tests has to be proved, or '' where it was as all stands now."""
+    return why_anew(name, proof_of(name), "it was proved", known)

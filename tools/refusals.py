@@ -13,12 +13,15 @@ import sys
 from typing import NamedTuple
 
 sys.dont_write_bytecode = True
+import kit
 from functions import functions_of
 
 # How many edits one check tries at most.
 MOST = 24
-TOLD = re.compile(r"^fn (\S+): (proved|not proved)\b")
+# (a function has no proof where its goals are not found, or where one that it calls is not proved)
+TOLD = re.compile(r"^fn (\S+): (proved|not proved|no proof)\b")
 ERROR = re.compile(r"^(?:note: )?(?:\./)?((?:src|proofs)/\S+?):(\d+):\d+: ")
+UNKNOWN = re.compile(r"^rattle: error: .* has no function `([^`]+)`")
 # A proof file that names what an edit took away says nothing of a contract.
 NAMES = re.compile(r"has no field|is not in scope|has no `|was not admitted")
 
@@ -31,11 +34,12 @@ class Place(NamedTuple):
     first: int
     last: int
 
-    def name(self):
-        return self.symbols[0].split("::")[-1]
+    def names(self):
+        """Returns the ends of these names, by one of which the prover finds it: functions of two types may have one name."""
+        return ["::".join(it.split("::")[-2:]) for it in self.symbols]
 
     def told(self, said):
-        """Returns what a check said of it: its name, and 'proved' or 'not proved'; two empty texts where that is not known. A method that stands in
+        """Returns what a check said of it: its name, and 'proved', 'not proved' or 'no proof'; two empty texts where that is not known. A method that stands in
         another file than its type is known by the end of its name."""
         ends = tuple("::" + "::".join(it.split("::")[-2:]) for it in self.symbols)
         found = [it for it in said if it[0] in self.symbols] or [it for it in said if it[0].endswith(ends)]
@@ -58,16 +62,18 @@ class Edit(NamedTuple):
     def name(self):
         return os.path.basename(self.path)
 
-    def is_refused(self, lines):
-        """Whether a check that said this refuses it for its meaning."""
+    def refusal(self, lines):
+        """Returns the line by which a check that said this refuses it for its meaning, or none."""
         said = [found.groups() for line in lines if (found := TOLD.match(line))]
         for place in self.places:
             symbol, word = place.told(said)
-            if word == "not proved":
+            if word in ("not proved", "no proof"):
                 errors = [line for line in lines if ERROR.match(line) and place.is_at(symbol, line)]
-                if not errors or not all(map(NAMES.search, errors)):
-                    return True
-        return False
+                if found := next((line for line in errors if not NAMES.search(line)), None):
+                    return found
+                if word == "not proved" and not errors:
+                    return f"fn {symbol}: not proved"
+        return None
 
 
 def places_in(crate, file, new):
@@ -92,6 +98,22 @@ def read(rt, crate, path):
     texts, _ = rt.read_edit(path, crate.folder)
     parts = [places_in(crate, file, text) for file, text in (texts or {}).items()]
     return Edit(path, texts or {}, frozenset().union(*parts) if all(parts) else frozenset())
+
+
+def control_of(crate, edits):
+    """Returns the shortest function of a file that these edits change which neither they change nor calls one that they do; None where there is none."""
+    changed, found = {place for it in edits for place in it.places}, []
+    names = {it.symbols[0].split("::")[-1] for it in changed}
+    for file in sorted({it.file for it in changed}):
+        with open(f"{crate.folder}/{file}", encoding="utf-8") as it:
+            text = it.read()
+        rows = text.split("\n")
+        for it in functions_of(text):
+            place = Place(it.symbols(crate.name, file), file, it.first, it.last)
+            words = set(re.findall(r"\w+", "\n".join(rows[it.first - 1 : it.last])))
+            if place not in changed and not names & words:
+                found.append(place)
+    return min(found, key=lambda it: it.last - it.first, default=None)
 
 
 def rounds_of(edits):
@@ -122,35 +144,57 @@ def joined(crate, edits):
 
 class Refusals:
     """The tries of one crate's edits, over what a check of the crate as it stands proved. `crate` is one of the kit's, whose libraries
-    below are built."""
+    below are built; in the folder `seed`, if there is one, is what checks of the crate kept elsewhere."""
 
-    def __init__(self, rt, crate, paths):
-        self.rt, self.crate, self.room, self.files = rt, crate, None, {}
+    def __init__(self, rt, crate, paths, seed=None):
+        self.rt, self.crate, self.seed, self.room, self.files = rt, crate, seed, None, {}
+        # What refused an edit, by its path.
+        self.told = {}
+        # A function that no edit changes, and what the checks of edits said of it.
+        self.control, self.words = None, set()
+        # Whether a check of the whole crate has refused an edit, or not.
+        self.is_whole = False
         edits = [read(rt, crate, it) for it in paths]
         self.alone = [it for it in edits if not it.places]
         self.rounds = rounds_of([it for it in edits if it.places])
 
     def begin(self):
-        """Proves the crate, begun with what checks on this machine kept of it, and returns whether it is proved."""
-        self.room = self.rt.seeded(self.crate, ["--jobs", "1"], self.rt.work_for(self.crate))
-        self.files = self.rt.listing(f"{self.room}/seed") if self.room else {}
+        """Begins with what checks on this machine kept of the crate, and returns whether it is proved, as far as that is asked here (kit.py)."""
+        self.room = kit.seeded(self.rt, self.crate, self.seed)
+        self.files = kit.listing(f"{self.room}/seed") if self.room else {}
         return self.room is not None
+
+    def with_control(self):
+        """Has each check prove one function more, as it stands: for the edits of a crate that was just proved, which need no check behind them."""
+        self.control = control_of(self.crate, [it for edits in self.rounds for it in edits])
+
+    def is_sound(self):
+        """Whether each check of edits has proved the function that no edit changes; else the changed functions are checked as they stand."""
+        return self.words == {"proved"} or self.end()
 
     @contextlib.contextmanager
     def over(self, name):
         """Gives a copy of what was proved, for one check."""
         folder = f"{self.room}/{name}"
-        self.rt.linked(f"{self.room}/seed", folder)
+        kit.linked(f"{self.room}/seed", folder)
         try:
             yield folder
         finally:
             shutil.rmtree(folder, ignore_errors=True)
 
     def check(self, name, texts, places):
-        """Checks these functions with these texts, and returns the lines of what was said."""
-        only = [word for it in sorted({it.name() for it in places}) for word in ("--only", it)]
-        with self.over(name) as folder:
-            return self.rt.checked(self.crate, texts, ["--jobs", "1", *only], folder).stdout.split("\n")
+        """Checks these functions with these texts, or all where none is given, and returns the lines of what was said. The prover says at once where
+        it knows one by another of its names, or by none, as it does of a test."""
+        names = [it.names() for it in places]
+        while names or not places:
+            only = [word for it in sorted({it[0] for it in names}) for word in ("--only", it)]
+            with self.over(name) as folder:
+                lines = self.rt.checked(self.crate, texts, ["--jobs", "1", *only], folder).stdout.split("\n")
+            unknown = {found[1] for line in lines if (found := UNKNOWN.search(line))}
+            if not unknown:
+                return lines
+            names = [left for it in names if (left := it[it[0] in unknown :])]
+        return []
 
     def unrefused(self, number):
         """Tries the edits of a round in one check, and returns those that it does not refuse for their meaning."""
@@ -158,23 +202,32 @@ class Refusals:
 
     def left(self, name, edits):
         """Returns those of these edits that one check does not refuse. Where it tells of no function, one of them cannot be read, so each half is tried."""
-        lines = self.check(name, joined(self.crate, edits), {place for it in edits for place in it.places})
+        places = {place for it in edits for place in it.places}
+        lines = self.check(name, joined(self.crate, edits), places | {self.control} - {None})
         if len(edits) > 1 and not any(map(TOLD.match, lines)):
             half = len(edits) // 2
             return self.left(name, edits[:half]) + self.left(name, edits[half:])
-        return [it for it in edits if not it.is_refused(lines)]
+        if self.control:
+            self.words.add(self.control.told([found.groups() for line in lines if (found := TOLD.match(line))])[1])
+        self.told |= {it.path: line for it in edits if (line := it.refusal(lines))}
+        return [it for it in edits if it.path not in self.told]
 
     def try_alone(self, edit):
         """Tries one edit as the gate does, and returns whether it is refused, and what to say."""
+        self.is_whole = True
         with self.over(f"alone-{edit.name()}") as folder:
-            kind, text = self.rt.must_fail(self.crate, edit.path, ["--jobs", "1"], folder)
-        return kind in (self.rt.REFUSED, self.rt.AT_LIMIT), text
+            return kit.must_fail(self.rt, self.crate, edit.path, folder)
+
+    def clear(self):
+        """Removes what the tries kept."""
+        shutil.rmtree(self.room, ignore_errors=True)
 
     def end(self):
-        """Checks the functions that were changed as they stand, and returns whether all are proved, over what nothing has touched meanwhile."""
+        """Checks the functions that were changed as they stand, and all of the crate where one edit was tried by a check of all; returns whether they are
+        proved, over what nothing has touched meanwhile."""
         places = {place for edits in self.rounds for it in edits for place in it.places}
-        lines = self.check("as-they-stand", {}, places) if places else []
+        lines = self.check("as-they-stand", {}, set() if self.is_whole else places)
         said = [found.groups() for line in lines if (found := TOLD.match(line))]
-        is_same = self.rt.listing(f"{self.room}/seed") == self.files
-        shutil.rmtree(self.room, ignore_errors=True)
-        return is_same and all(it.told(said)[1] == "proved" for it in places)
+        is_same = kit.listing(f"{self.room}/seed") == self.files
+        self.clear()
+        return is_same and (any(it.startswith("logic=proved") for it in lines) if self.is_whole else all(it.told(said)[1] == "proved" for it in places))

@@ -10,6 +10,8 @@ TOP = os.path.dirname(os.path.dirname(os.path.realpath(__file__)))
 
 # The programs that only measure: they are proved when they are built to measure, and no part of the gate.
 MEASURES = ("bench", "workload")
+# The crates of tests alone: the gate tries their tests with checks, and tools/prove-tests proves them.
+TESTS = ("layer_tests", "edge_tests", "worked_rows", "mount_tests")
 
 
 def rt_of(tool):

@@ -23,7 +23,7 @@ use Rattle.mount_requests.specs.Found.{inode_of}
 use Rattle.mount_requests.specs.Later.{with_creation}
 use Rattle.mount_requests.specs.Requests.{AnswersLookUpBy, AnswersRenameBy, IsAnswered, born_if, with_opening}
 use Rattle.mount_requests.specs.Seen.{Seen}
-use Rattle.mount_requests.specs.Times.{Events, inode_named, of_copying, of_cutting, of_exchanging, of_linking, of_making, of_moving, of_removing, of_setting, of_writing, view_at, with_each, with_events_if}
+use Rattle.mount_requests.specs.Times.{Events, inode_named, of_copying, of_cutting, of_exchanging, of_linking, of_making, of_removing, of_renaming, of_setting, of_writing, view_at, with_each, with_events_if}
 use Rattle.mount_requests.specs.declared.failure.Failure.{Failure}
 use Rattle.mount_requests.specs.declared.opening.Opening.{Opening}
 use Rattle.mount_requests.specs.declared.opening.Opening.TheVariants.{Again, First}
@@ -109,7 +109,7 @@ module _ (s : Seen) (node : ℕ) where
 
   rename_apart : (b : Bool) (later : Seen) (pid : ℕ) (name : List ℕ) (new_node : ℕ) (new_name : List ℕ) (flags : ℕ) (old new : Shown) (r : Result Reply Failure) → here ≢ 0 → AnswersRenameBy b s later pid node name new_node new_name flags old new r → AreApart s later here
   rename_apart true later pid name new_node new_name flags old new r live h = answers_apart here (λ p x known told k. apart_to s here k.1 (apart_events s here _ (of_exchanging (inode_named s node name) (inode_named s new_node new_name) (inode_of s node) (inode_of s new_node)) live refl)) h
-  rename_apart false later pid name new_node new_name flags old new r live h = answers_apart here (λ p x known told k. apart_to s here k.1 (apart_events s here _ (of_moving (inode_named s node name) (inode_of s node) (inode_of s new_node)) live refl)) h
+  rename_apart false later pid name new_node new_name flags old new r live h = answers_apart here (λ p x known told k. apart_to s here k.1 (apart_events s here _ (of_renaming (inode_named s node name) (inode_named s new_node new_name) (inode_of s node) (inode_of s new_node)) live refl)) h
 
 pub answered_apart : (s later : Seen) (pid : ℕ) (who : Caller) (o : Operation) (old new : Shown) (r : Result Reply Failure) → view_at s who.node ≢ 0 → IsAnswered s later pid who o old new r → AreApart s later (view_at s who.node)
 answered_apart s later pid who (asked.Lookup name) old new r live h = look_up_apart s who.node (is_reserved who.node name) later pid name old new r h

@@ -14,7 +14,7 @@ use Rattle.view_times.specs.Known.{aborted as forgotten}
 use Rattle.mount_requests.specs.Found.{inode_of}
 use Rattle.mount_requests.specs.Seen.{Seen}
 use Rattle.mount_requests.specs.Times.{inode_named, of_cutting, of_exchanging, of_linking, of_making}
-use Rattle.mount_requests.specs.Times.{of_moving, of_removing, with_events}
+use Rattle.mount_requests.specs.Times.{of_removing, of_renaming, with_events}
 use Rattle.mount_requests.specs.Told.{named}
 
 -- ---- names
@@ -52,7 +52,8 @@ without_name s node name =
 abbrev pub with_move : Seen → ℕ → List ℕ → ℕ → List ℕ → Seen
 with_move s node name new_node new_name =
     record (with_events node
-    (of_moving (inode_named s node name) (inode_of s node) (inode_of s new_node)) s) {
+    (of_renaming (inode_named s node name) (inode_named s new_node new_name) (inode_of s node)
+    (inode_of s new_node)) s) {
       nodes = renamed s.nodes (named node name) (named new_node new_name);
     }
 

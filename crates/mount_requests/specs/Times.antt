@@ -53,14 +53,20 @@ abbrev pub of_both : Option ℕ → Option ℕ → Events
 of_both (Some inode) other = (inode, StatusChanged) ∷ of_names other
 of_both None other = of_names other
 
--- the directories of two names that are exchanged, and what each gave; two names of one object stay
-abbrev pub are_one : Option ℕ → Option ℕ → Bool
-are_one (Some one) (Some other) = one == other
-are_one _ _ = false
+-- whether two names gave one object
+abbrev pub gave_one : Option ℕ → Option ℕ → Bool
+gave_one (Some one) (Some other) = one == other
+gave_one (Some one) None = false
+gave_one None there = false
 
+-- A rename from one name of an object to another one does nothing (rename, POSIX).
+abbrev pub of_renaming : Option ℕ → Option ℕ → ℕ → ℕ → Events
+of_renaming moved there from to = if gave_one moved there then [] else of_moving moved from to
+
+-- the directories of two names that are exchanged, and what each gave; two names of one object stay
 abbrev pub of_exchanging : Option ℕ → Option ℕ → ℕ → ℕ → Events
 of_exchanging one other first second =
-    if are_one one other then []
+    if gave_one one other then []
     else (first, Modified) ∷ (second, Modified) ∷ of_both one other
 
 -- bytes that are written

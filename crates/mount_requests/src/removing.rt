@@ -93,7 +93,7 @@ impl Tables {
         ensures { seen self.new ≡ with_move (seen self.old) former.now.parent former.now.name
             spot.parent spot.name }
     {
-        self.note_going(former, spot.entry().parent);
+        self.note_renamed(former, spot.entry());
         let noted: Result<_, _> = self.nodes.move_entry(former, spot);
         noted.unwrap();
     }

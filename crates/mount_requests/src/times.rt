@@ -6,9 +6,10 @@ ghost use Rattle.view_times.specs.Known.{noted_by};
 ghost use Rattle.mount_requests.specs.Found.{inode_of};
 ghost use Rattle.mount_requests.specs.Later.{with_aborted};
 ghost use Rattle.mount_requests.specs.Seen.{seen};
-ghost use Rattle.mount_requests.specs.Times.{are_one, at_time, inode_named, of_both, of_changes};
+ghost use Rattle.mount_requests.specs.Times.{at_time, gave_one, inode_named, of_both, of_changes};
 ghost use Rattle.mount_requests.specs.Times.{of_copying, of_cutting, of_exchanging, of_linking};
-ghost use Rattle.mount_requests.specs.Times.{of_making, of_moving, of_removing, of_setting};
+ghost use Rattle.mount_requests.specs.Times.{of_making, of_moving, of_removing, of_renaming};
+ghost use Rattle.mount_requests.specs.Times.{of_setting};
 ghost use Rattle.mount_requests.specs.Times.{of_writing, time_in, times_at, times_if, view_at};
 ghost use Rattle.mount_requests.specs.Times.{noted_in, of_names, with_events, with_events_if};
 
@@ -61,8 +62,8 @@ fn event_of(changes: &Changes, now: Time) -> Event
 }
 
 // Whether both are known, and are one object.
-fn are_one(one: Option<Num>, other: Option<Num>) -> bool
-    ensures { result ≡ are_one one other }
+fn gave_one(one: Option<Num>, other: Option<Num>) -> bool
+    ensures { result ≡ gave_one one other }
 {
     match (one, other) {
         (Some(one), Some(other)) => one == other,
@@ -192,7 +193,7 @@ impl Tables {
     }
 
     // A name goes from its directory to another one, which a node gives.
-    pub(crate) fn note_going(&mut self, entry: &DirectoryEntry, new_parent: u64)
+    fn note_going(&mut self, entry: &DirectoryEntry, new_parent: u64)
         requires { 3 ≤ room_of self.old.times (view_at (seen self.old) entry.now.parent) }
         ensures seen { seen self.new ≡ with_events entry.now.parent
             (of_moving (inode_named (seen self.old) entry.now.parent entry.now.name)
@@ -240,7 +241,7 @@ impl Tables {
         let view = self.view_at(first.parent);
         let one = self.inode_named(first);
         let other = self.inode_named(second);
-        if are_one(one, other) {
+        if gave_one(one, other) {
             return;
         }
         let at = self.inode_of(first.parent);
@@ -248,6 +249,24 @@ impl Tables {
         self.note(view, at, Event::Modified);
         self.note(view, onto, Event::Modified);
         self.note_both(view, one, other);
+    }
+
+    // A name is moved to another one: nothing is noted where both gave one object.
+    pub(crate) fn note_renamed(&mut self, entry: &DirectoryEntry, new: &DirectoryEntry)
+        requires { 3 ≤ room_of self.old.times (view_at (seen self.old) entry.now.parent) }
+        ensures seen { seen self.new ≡ with_events entry.now.parent
+            (of_renaming (inode_named (seen self.old) entry.now.parent entry.now.name)
+            (inode_named (seen self.old) new.now.parent new.now.name)
+            (inode_of (seen self.old) entry.now.parent) (inode_of (seen self.old) new.now.parent))
+            (seen self.old) }
+        ensures nodes { self.new.nodes ≡ self.old.nodes }
+        ensures files { self.new.files ≡ self.old.files }
+    {
+        let moved = self.inode_named(entry);
+        let there = self.inode_named(new);
+        if !gave_one(moved, there) {
+            self.note_going(entry, new.parent);
+        }
     }
 
     // Bytes of an object were written, by a request about this node.

@@ -1,0 +1,79 @@
+"""What tries of edits need of the kit's command, whichever kit it is: one that keeps what it has proved on this machine, or one that proves all
+from nothing. The latter takes what checks have left in the folders out/ of the crates, where it is of the same text.
+"""
+import os
+import shutil
+import subprocess
+import sys
+import tempfile
+
+sys.dont_write_bytecode = True
+
+
+def keeps(rt):
+    """Whether this kit's command keeps what it has proved."""
+    return hasattr(rt, "Kept")
+
+
+def crates_of(rt, root):
+    """Returns the kit's crates of the repository in the folder `root` by their names."""
+    rt.Crate.allowed = rt.handles_of(root)
+    with tempfile.TemporaryDirectory() as aside:
+        found = rt.crates_of(root) if keeps(rt) else rt.crates_of(root, aside)
+    return {it.name: it for it in found}
+
+
+def crates_there(rt, root):
+    """Returns the kit's crates of the repository in the folder `root` by their names, with what was built of them left where it is. For a kit
+    that keeps nothing."""
+    rt.Crate.allowed = rt.handles_of(root)
+    rt.rtlib.Crate = rt.Crate
+    return {it.name: it for it in rt.rtlib.crates_below(root)}
+
+
+def listing(folder):
+    """Returns each file below a folder, with its size and the time of its last change."""
+    found = {}
+    for at, _, names in os.walk(folder):
+        for name in names:
+            told = os.stat(f"{at}/{name}")
+            found[f"{at}/{name}"] = told.st_size, told.st_mtime_ns
+    return found
+
+
+def linked(folder, to):
+    """Makes a copy of a folder whose files are the same ones, by further names. A check replaces a file that it writes anew."""
+    shutil.copytree(folder, to, copy_function=os.link)
+
+
+def build_library(crate, folder):
+    """Builds the library of a crate, whose libraries below are built, or takes the one in the crate's folder elsewhere, where that is of the same
+    text; returns whether it is built."""
+    there = f"{folder}/out/rlib"
+    if not crate.is_built() and os.path.isfile(f"{there}/stamp"):
+        shutil.rmtree(f"{crate.folder}/out/rlib", ignore_errors=True)
+        os.makedirs(f"{crate.folder}/out", exist_ok=True)
+        shutil.copytree(there, f"{crate.folder}/out/rlib")
+    with tempfile.TemporaryFile("a+", errors="replace") as crate.out:
+        return crate.build_rlib(["--jobs", "1"], anew=False) == 0
+
+
+def seeded(rt, crate, seed):
+    """Returns a folder in whose folder `seed` is what a check of the crate kept: where the kit keeps what it has proved that of a check made now, and
+    None where the crate is not proved; else what checks left in the folder `seed`, if there is one."""
+    if keeps(rt):
+        return rt.seeded(crate, ["--jobs", "1"], rt.work_for(crate))
+    room = tempfile.mkdtemp(prefix="kagzuvis-edits-")
+    if not seed or not os.path.isdir(seed):
+        os.mkdir(f"{room}/seed")
+    elif os.stat(seed).st_dev == os.stat(room).st_dev:
+        linked(seed, f"{room}/seed")
+    else:
+        subprocess.run(["cp", "-a", seed, f"{room}/seed"], check=True)
+    return room
+
+
+def must_fail(rt, crate, path, folder):
+    """Tries one edit over what is in the folder, and returns whether the prover refuses it, and what to say."""
+    kind, text = rt.must_fail(crate, path, ["--jobs", "1"], folder)
+    return kind in (rt.REFUSED, rt.AT_LIMIT) if keeps(rt) else kind, text
