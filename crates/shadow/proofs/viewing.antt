@@ -4,3 +4,4 @@ pub mod StoredHolders
 pub mod PipePairs
 pub mod DirectoryRoom
 pub mod LowestFree
+pub mod KindsStay

@@ -122,14 +122,17 @@ impl<'a> View<'a> {
         View { stable, shadow }
     }
 
-    // What kind of inode a number stands for.
+    // What kind of inode a number stands for. No change takes a committed inode away, or changes its
+    // kind, so changes are looked at only where none is committed.
     fn kind(&self, num: Num) -> Option<Kind>
         ensures { result ≡ kind_of self.now.state num }
     {
-        let stored = self.stable.kind(num);
-        match change(self.shadow, num) {
-            Some(change) => kind_over(&change.contents, stored),
-            None => stored,
+        match self.stable.kind(num) {
+            Some(kind) => Some(kind),
+            None => match change(self.shadow, num) {
+                Some(change) => kind_over(&change.contents, None),
+                None => None,
+            },
         }
     }
 
