@@ -3,7 +3,9 @@
 Two processes do it. The first one, whose number the caller has, only passes signals on to the second one, which does all else: it has no
 children but what comes of the command, as the first one may have from the process that it was before.
 """
+import argparse
 import os
+import re
 import select
 import signal
 import sys
@@ -59,71 +61,47 @@ class BadUsage(Exception):
     """What is wrong with the command line."""
 
 
-class Words:
-    """What the command line asks."""
+class Parser(argparse.ArgumentParser):
+    """Reads the command line, and raises `BadUsage` where it ended the process."""
 
-    def __init__(self):
-        self.retries, self.keep_trying, self.priority, self.kill_after = None, None, None, None
-        self.verbose = self.dry_run = self.diff = self.help = False
-        self.tree, self.command = None, []
+    def error(self, message):
+        raise BadUsage(message)
 
 
-def is_number(text, digits):
-    return text.isascii() and text.isdigit() and len(text) <= digits
+def of_form(form, made, what):
+    """Returns what reads a value of this form."""
+
+    def read(text):
+        if not re.fullmatch(form, text):
+            raise argparse.ArgumentTypeError(f"{what}, not '{text}'")
+        return made(text)
+
+    return read
 
 
-def number(text):
-    return int(text) if is_number(text, 6) else None
-
-
-def priority(text):
-    return int(text) if is_number(text, 1) and int(text) < 8 else None
-
-
-def seconds(text):
-    whole, dot, part = text.partition(".")
-    return float(text) if is_number(whole, 9) and (not dot or is_number(part, 9)) else None
-
-
+# The options that have a value, and what reads it.
 WITH_VALUE = {
-    "--retries": ("retries", number, "a number up to 999999"),
-    "--keep-trying": ("keep_trying", seconds, "seconds"),
-    "--priority": ("priority", priority, "a number from 0 to 7"),
-    "--kill-after": ("kill_after", seconds, "seconds"),
+    "--retries": of_form("[0-9]{1,6}", int, "a number up to 999999 is needed"),
+    "--keep-trying": of_form(r"[0-9]{1,9}(\.[0-9]{1,9})?", float, "seconds are needed"),
+    "--priority": of_form("[0-7]", int, "a number from 0 to 7 is needed"),
+    "--kill-after": of_form(r"[0-9]{1,9}(\.[0-9]{1,9})?", float, "seconds are needed"),
 }
-WITHOUT = {"--verbose": "verbose", "--dry-run": "dry_run", "--diff": "diff", "--help": "help"}
-
-
-def take_option(words, left):
-    """Takes an option from the front of what is left of the command line."""
-    word, equals, value = left.pop(0).partition("=")
-    if word in WITHOUT and not equals:
-        setattr(words, WITHOUT[word], True)
-    elif word in WITH_VALUE:
-        name, read, what = WITH_VALUE[word]
-        if not equals and not left:
-            raise BadUsage(f"{word} needs {what}")
-        value = value if equals else left.pop(0)
-        if read(value) is None:
-            raise BadUsage(f"{word} needs {what}, not '{value}'")
-        setattr(words, name, read(value))
-    else:
-        raise BadUsage(f"there is no option {word}{equals}{value}")
 
 
 def parse(arguments):
-    """Returns what the command line asks, or raises `BadUsage`."""
-    words, left = Words(), list(arguments)
-    while left and left[0].startswith("-") and not words.help:
-        if left[0] == "--":
-            left.pop(0)
-            break
-        take_option(words, left)
+    """Returns what the command line asks, or raises `BadUsage`. What stands behind DIR is the command's."""
+    parser = Parser(add_help=False, allow_abbrev=False)
+    for option, read in WITH_VALUE.items():
+        parser.add_argument(option, type=read)
+    for option in "--verbose", "--dry-run", "--diff", "--help":
+        parser.add_argument(option, action="store_true")
+    parser.add_argument("tree", nargs="?")
+    parser.add_argument("command", nargs=argparse.REMAINDER)
+    words = parser.parse_args(arguments)
     if words.help:
         return words
-    if not left:
+    if words.tree is None:
         raise BadUsage("DIR is missing")
-    words.tree, words.command = left[0], left[1:]
     if not words.command and not os.isatty(0):
         raise BadUsage("COMMAND is missing, and standard input is no terminal for a shell")
     if not words.command and (words.retries is not None or words.keep_trying is not None):
