@@ -98,10 +98,6 @@ class Gate:
         bad = sum(bool(re.match("^rt: .*: BAD EDIT:", line)) for line in self.said)
         return (int(last[1]), int(last[2]) + bad) if last else (0, 1)
 
-    def refused(self):
-        """Returns how many edits were refused."""
-        return sum(bool(re.match(r"^rt: must-fail \S+: refused, as it must be", line)) for line in self.said)
-
     def tests(self):
         """Returns how many tests of crates passed."""
         return sum(int(found[1]) for line in self.said if (found := re.match(r"^test result: \w+\. (\d+) passed;", line)))

@@ -1,5 +1,5 @@
 """What tries of edits need of the kit's command, whichever kit it is: one that keeps what it has proved on this machine, or one that proves all
-from nothing. The latter takes what checks have left in the folders out/ of the crates, where it is of the same text.
+from nothing. They begin with what checks have left in the folders out/ of the crates, where it is of the same text.
 """
 import os
 import shutil
@@ -24,8 +24,7 @@ def crates_of(rt, root):
 
 
 def crates_there(rt, root):
-    """Returns the kit's crates of the repository in the folder `root` by their names, with what was built of them left where it is. For a kit
-    that keeps nothing."""
+    """Returns the kit's crates of the repository in the folder `root` by their names, with what was built of them left where it is."""
     rt.Crate.allowed = rt.handles_of(root)
     rt.rtlib.Crate = rt.Crate
     return {it.name: it for it in rt.rtlib.crates_below(root)}
@@ -59,11 +58,11 @@ def build_library(crate, folder):
 
 
 def seeded(rt, crate, seed):
-    """Returns a folder in whose folder `seed` is what a check of the crate kept: where the kit keeps what it has proved that of a check made now, and
-    None where the crate is not proved; else what checks left in the folder `seed`, if there is one."""
-    if keeps(rt):
-        return rt.seeded(crate, ["--jobs", "1"], rt.work_for(crate))
+    """Returns a folder in whose folder `seed` is what checks kept of the crate: those that left it in the folder `seed`, or else others on this machine, where the
+    kit knows of them. Nothing is in it where there are none, or where no folder is named."""
     room = tempfile.mkdtemp(prefix="kagzuvis-edits-")
+    if keeps(rt) and seed and not os.path.isdir(seed):
+        seed = rt.work_for(crate)
     if not seed or not os.path.isdir(seed):
         os.mkdir(f"{room}/seed")
     elif os.stat(seed).st_dev == os.stat(room).st_dev:
@@ -71,6 +70,11 @@ def seeded(rt, crate, seed):
     else:
         subprocess.run(["cp", "-a", seed, f"{room}/seed"], check=True)
     return room
+
+
+def is_kept(kept, crate):
+    """Returns whether `rt ci` has proved this text of the crate on this machine, over the libraries that were put below it."""
+    return os.path.isdir(kept.place(crate, False, kept.key(crate)))
 
 
 def must_fail(rt, crate, path, folder):

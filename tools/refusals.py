@@ -62,18 +62,20 @@ class Edit(NamedTuple):
     def name(self):
         return os.path.basename(self.path)
 
-    def refusal(self, lines):
-        """Returns the line by which a check that said this refuses it for its meaning, or none."""
-        said = [found.groups() for line in lines if (found := TOLD.match(line))]
+    def refusals(self, lines):
+        """Returns the line by which a check that said this refuses it for its meaning, or none; and one that refuses it only for a name in a proof
+        file that it takes away, or none."""
+        said, by_name = [found.groups() for line in lines if (found := TOLD.match(line))], None
         for place in self.places:
             symbol, word = place.told(said)
             if word in ("not proved", "no proof"):
                 errors = [line for line in lines if ERROR.match(line) and place.is_at(symbol, line)]
                 if found := next((line for line in errors if not NAMES.search(line)), None):
-                    return found
+                    return found, None
                 if word == "not proved" and not errors:
-                    return f"fn {symbol}: not proved"
-        return None
+                    return f"fn {symbol}: not proved", None
+                by_name = by_name or next(iter(errors), None)
+        return None, by_name
 
 
 def places_in(crate, file, new):
@@ -148,8 +150,8 @@ class Refusals:
 
     def __init__(self, rt, crate, paths, seed=None):
         self.rt, self.crate, self.seed, self.room, self.files = rt, crate, seed, None, {}
-        # What refused an edit, by its path.
-        self.told = {}
+        # What refused an edit, by its path; and what refuses it only for a name that it takes away from a proof file, which says little of a contract.
+        self.told, self.by_name = {}, {}
         # A function that no edit changes, and what the checks of edits said of it.
         self.control, self.words = None, set()
         # Whether a check of the whole crate has refused an edit, or not.
@@ -159,10 +161,9 @@ class Refusals:
         self.rounds = rounds_of([it for it in edits if it.places])
 
     def begin(self):
-        """Begins with what checks on this machine kept of the crate, and returns whether it is proved, as far as that is asked here (kit.py)."""
+        """Begins with what checks on this machine kept of the crate."""
         self.room = kit.seeded(self.rt, self.crate, self.seed)
-        self.files = kit.listing(f"{self.room}/seed") if self.room else {}
-        return self.room is not None
+        self.files = kit.listing(f"{self.room}/seed")
 
     def with_control(self):
         """Has each check prove one function more, as it stands: for the edits of a crate that was just proved, which need no check behind them."""
@@ -209,8 +210,17 @@ class Refusals:
             return self.left(name, edits[:half]) + self.left(name, edits[half:])
         if self.control:
             self.words.add(self.control.told([found.groups() for line in lines if (found := TOLD.match(line))])[1])
-        self.told |= {it.path: line for it in edits if (line := it.refusal(lines))}
+        for it in edits:
+            told, by_name = it.refusals(lines)
+            self.told |= {it.path: told} if told else {}
+            self.by_name |= {it.path: by_name} if by_name else {}
         return [it for it in edits if it.path not in self.told]
+
+    def fill(self):
+        """Checks the whole crate as it stands, so that each edit that is tried alone begins with that, and returns whether it is proved."""
+        is_proved = not self.rt.checked(self.crate, {}, ["--jobs", "1"], f"{self.room}/seed").returncode
+        self.files = kit.listing(f"{self.room}/seed")
+        return is_proved
 
     def try_alone(self, edit):
         """Tries one edit as the gate does, and returns whether it is refused, and what to say."""
@@ -229,5 +239,4 @@ class Refusals:
         lines = self.check("as-they-stand", {}, set() if self.is_whole else places)
         said = [found.groups() for line in lines if (found := TOLD.match(line))]
         is_same = kit.listing(f"{self.room}/seed") == self.files
-        self.clear()
         return is_same and (any(it.startswith("logic=proved") for it in lines) if self.is_whole else all(it.told(said)[1] == "proved" for it in places))

@@ -51,8 +51,8 @@ class Trials:
     """All that is tried in one run. Tasks are calls, which may add tests and further tasks."""
 
     def __init__(self, name):
-        self.lanes = lanes()
-        self.pool, self.change, self.left = ThreadPoolExecutor(self.lanes), threading.Condition(), 0
+        # (one more than processors: what is tried on a mounted tree waits for a third of its time)
+        self.pool, self.change, self.left = ThreadPoolExecutor(lanes() + 1), threading.Condition(), 0
         self.groups, self.at_work, self.left_out, self.children, self.is_ending = [], {}, [], set(), False
         self.clock = Clock(name, self.text)
 

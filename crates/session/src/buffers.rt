@@ -16,12 +16,13 @@ const REPLY_LIMIT: usize = 1_048_576;
 // How many bytes a reply has, at most.
 const MESSAGE_LIMIT: usize = 1_048_576 + 16;
 
-/// Where a request is read to, and where its reply is made. Both are made once, so that no reply is
-/// refused memory.
+/// Where a request is read to, with room for the longest that Linux may make, and where its reply is
+/// made. Both are made once, so that no reply is refused memory.
 #[derive(Drop)]
 pub struct Buffers {
     pub(crate) request: Vec<u8, Heap>,
     pub(crate) reply: Message,
+    ghost whole: { length request.items ≡ 1052672 },
 }
 
 // The bytes of a reply, for which there is room.
