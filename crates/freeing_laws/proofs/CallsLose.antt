@@ -1,5 +1,5 @@
 -- Of the edits of one call only the last loses anything.
-use Rattle.std.proofs.Common.{◌≡◌, ℕ, ◌+◌, ◌-◌, ℤ, pos, negsuc, ◌+ℤ◌, Bool, true, false, not, ◌&&◌, ◌||◌, if◌then◌else◌, List, [], ◌∷◌, ◌++◌, Option, Some, None, Result, Ok, Err, IfOk, nat_lt, nat_le, ◌==◌, length, min, refl}
+use Rattle.std.proofs.Common.{◌≡◌, ℕ, ◌+◌, ◌-◌, ℤ, pos, negsuc, Bool, true, false, not, ◌&&◌, ◌||◌, if◌then◌else◌, List, [], ◌∷◌, ◌++◌, Option, Some, None, Result, Ok, Err, IfOk, nat_lt, nat_le, ◌==◌, length, min, refl}
 use Rattle.std.specs.Prelude.{⊤}
 use Rattle.std.specs.List.{list_any}
 use Rattle.model.specs.State.{A_file, A_directory, A_pipe, A_link, A_fifo, A_socket, Kernel, ends}
@@ -9,7 +9,7 @@ use Rattle.model.specs.Walks.{Last, Place, parsed, walk, last_of, is_directory, 
 use Rattle.model.specs.Changes.{Edit, Unname_file, Unname_directory, Swap, Wipe, Move, Share_slot, Clear_slot, End_process, Make_directory, Make_file, Make_fixed, Name_file, Put_bytes, Cut, Take, Append, Set_offset, Set_rights, Open_inode, Make_pipe, New_process}
 use Rattle.model.specs.Calls.{Call, Open, Close, Read, Pread, Write, Pwrite, Lseek, Ftruncate, Truncate, Stat, Fstat, Link, Unlink, Rename, Exchange, Fallocate, Space, Grow, Keep, Punch, Mkdir, Rmdir, List_directory, Symlink, Readlink, Lstat, Mknod, Chmod, Chown, Fchmod, Fchown, Dup, Dup2, Open_pipe, Fork, Exit, OpenFlags, Slot, Own, own}
 use Rattle.ids.specs.Flags.{is_reading, is_writing, is_creating, is_exclusive, is_truncating}
-use Rattle.model.specs.Plans.{Change, target_limit, is_special, is_pipe, most_moved, status, slot, opened, cut_to, read_pipe, read_some, place_to_write, write_some, offset_named, sought, length_named, aimed, spaced, swapped, replaced_by_name, moved, absent, duplicated, piped, forked, first_of_free, free, plan, open_limit}
+use Rattle.model.specs.Plans.{Change, target_limit, is_special, is_pipe, most_moved, status, slot, opened, cut_to, read_pipe, read_some, place_to_write, write_some, offset_named, sought, length_named, aimed, spaced, replaced_by_name, moved, absent, duplicated, piped, forked, first_of_free, free, plan, open_limit}
 use Rattle.model.specs.Steps.{edits, edits_of, outcome}
 use Rattle.call_laws.proofs.Laws.{after_bind, whatever, weaken, either_given}
 use Rattle.freeing_laws.specs.Sweep.{nothing, lost_by, loses}

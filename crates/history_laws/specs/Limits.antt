@@ -1,6 +1,6 @@
--- The plain kernel's limits are never passed: fork, write, ftruncate, lseek, symlink, open, dup and
--- pipe refuse what would pass them (EAGAIN, EFBIG, EINVAL, ENAMETOOLONG and EMFILE of POSIX.1-2017,
--- which leaves the numbers to the implementation).
+-- The plain kernel's limits are never passed: fork, write, ftruncate, fallocate, lseek, symlink, open,
+-- dup and pipe refuse what would pass them (EAGAIN, EFBIG, EINVAL, ENAMETOOLONG and EMFILE of
+-- POSIX.1-2017, which leaves the numbers to the implementation; of fallocate Linux).
 use Rattle.std.specs.Prelude.{◌≡◌, ℕ, ◌≤◌, ◌<◌, List, Some, length}
 use Rattle.model.specs.FiniteMap.{get}
 use Rattle.model.specs.Changes.{process_of}

@@ -5,7 +5,7 @@ use Rattle.std.specs.Prelude.{if◌then◌else◌, is_some, filter, length}
 use Rattle.std.specs.List.{list_any}
 use Rattle.model.specs.FiniteMap.{FinMap, get, empty, insert}
 use Rattle.std.specs.Ordering.{nat_cmp}
-use Rattle.model.specs.State.{Kernel, Process, Directory}
+use Rattle.model.specs.State.{Bounds, Kernel, Process, Directory}
 use Rattle.model.specs.Plan.{Errno}
 use Rattle.model.specs.Changes.{all_applied, tidy, process_of}
 use Rattle.model.specs.Calls.{Call, Answer}

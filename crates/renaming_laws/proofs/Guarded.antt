@@ -1,5 +1,5 @@
 -- Of all calls only the status of the path `/` tells the root, and no edit gives it to a name or to a description.
-use Rattle.std.proofs.Common.{◌≡◌, ◌≢◌, ◌⊎◌, ℕ, ◌+◌, ◌-◌, Bool, true, false, not, ◌&&◌, ◌||◌, nat_lt, nat_le, ◌==◌, if◌then◌else◌, ℤ, pos, negsuc, ◌+ℤ◌, List, [], ◌∷◌, ◌++◌, map, length, min, Option, Some, None, Result, Ok, Err, IfOk, refl, sym, ap, subst, ◌∙◌, inl, inr, eqb-true}
+use Rattle.std.proofs.Common.{◌≡◌, ◌≢◌, ◌⊎◌, ℕ, ◌+◌, ◌-◌, Bool, true, false, not, ◌&&◌, ◌||◌, nat_lt, nat_le, ◌==◌, if◌then◌else◌, ℤ, pos, negsuc, List, [], ◌∷◌, ◌++◌, map, length, min, Option, Some, None, Result, Ok, Err, IfOk, refl, sym, ap, subst, ◌∙◌, inl, inr, eqb-true}
 use Rattle.std.specs.List.{AllByRecursion, list_any}
 use Rattle.std.specs.Cmp.{nat_cmp_total}
 use Rattle.ids.specs.Flags.{is_reading, is_writing, is_creating, is_exclusive, is_truncating}
@@ -9,7 +9,7 @@ use Rattle.model.specs.Plan.{Errno, EAGAIN, EBADF, EBUSY, EEXIST, EFBIG, EINVAL,
 use Rattle.model.specs.Paths.{is_empty, is_below, is_no_name, in_front, pieces, with_first, names_in, names_behind, absolute_names, path_names}
 use Rattle.model.specs.Limits.{name_limit}
 use Rattle.model.specs.Walks.{told, parsed, look, walk, Last, last, last_of, Place, is_directory, is_link}
-use Rattle.model.specs.Changes.{There, Edit, Swap, Wipe, Cut, Open_inode, Set_offset, process_of}
+use Rattle.model.specs.Changes.{There, Edit, Wipe, Cut, Open_inode, Set_offset, process_of}
 use Rattle.model.specs.Calls.{OpenFlags, Call, Open, Close, Read, Pread, Write, Pwrite, Lseek, Ftruncate, Truncate, Stat, Fstat, Link, Unlink, Rename, Exchange, Fallocate, Space, Grow, Keep, Punch, Mkdir, Rmdir, List_directory, Symlink, Readlink, Lstat, Mknod, Chmod, Chown, Fchmod, Fchown, Dup, Dup2, Open_pipe, Fork, Exit, Done, Descriptor, Bytes, Slot, Own, slot_of, own}
 use Rattle.model.specs.Plans.{Change, changed, free, first_of_free, slot, is_pipe, status, is_special, target_limit, mode, cut_to, opened, read_pipe, read_some, place_to_write, write_some, offset_named, sought, length_named, aimed, spaced, swapped, moved, replaced_by_name, absent, duplicated, piped, forked, most_moved, whole_write, most_processes, open_limit}
 use Rattle.model.specs.Steps.{outcome}

@@ -1,5 +1,5 @@
 -- The edits of a call speak of new numbers that are chosen, and share descriptions that are there.
-use Rattle.std.proofs.Common.{◌≡◌, ◌≢◌, ℕ, ◌+◌, ◌-◌, Bool, true, false, cond, not, ◌&&◌, ◌||◌, nat_lt, nat_le, ◌==◌, if◌then◌else◌, ℤ, pos, negsuc, ◌+ℤ◌, List, [], ◌∷◌, ◌++◌, map, length, min, Option, Some, None, Result, Ok, Err, IfOk, refl, sum_by, arith}
+use Rattle.std.proofs.Common.{◌≢◌, ℕ, ◌+◌, ◌-◌, Bool, true, false, cond, not, ◌&&◌, ◌||◌, nat_lt, nat_le, ◌==◌, if◌then◌else◌, ℤ, pos, negsuc, List, [], ◌∷◌, ◌++◌, map, length, min, Option, Some, None, Result, Ok, Err, IfOk, sum_by, arith}
 use Rattle.std.specs.Prelude.{⊤}
 use Rattle.std.specs.List.{AllByRecursion, list_any}
 use Rattle.std.specs.Map.{lookup}
@@ -10,9 +10,9 @@ use Rattle.model.specs.State.{A_file, A_directory, A_pipe, A_link, A_fifo, A_soc
 use Rattle.model.specs.Plan.{Errno, EAGAIN, EBADF, EBUSY, EEXIST, EFBIG, EINVAL, EISDIR, ELOOP, ENXIO, ENAMETOOLONG, ENOENT, ENOTDIR, ENOTEMPTY, EPERM, EPIPE, ESPIPE, List_names, Measure, Read_pipe, Count_ends, Find_offset, Read_file, Fit, Read_target, Plan, Give, given, ◌>>=◌, ◌>>◌, refuse_if, or_refuse, answer}
 use Rattle.model.specs.Paths.{is_empty, is_below}
 use Rattle.model.specs.Walks.{parsed, walk, Last, last_of, Place, is_directory, is_link}
-use Rattle.model.specs.Changes.{There, Edit, Swap, Wipe, Cut, Open_inode, Set_offset, Share_slot, news, process_of}
+use Rattle.model.specs.Changes.{There, Edit, Wipe, Cut, Open_inode, Set_offset, Share_slot, news, process_of}
 use Rattle.model.specs.Calls.{OpenFlags, Call, Open, Close, Read, Pread, Write, Pwrite, Lseek, Ftruncate, Truncate, Stat, Fstat, Link, Unlink, Rename, Exchange, Fallocate, Space, Grow, Keep, Punch, Mkdir, Rmdir, List_directory, Symlink, Readlink, Lstat, Mknod, Chmod, Chown, Fchmod, Fchown, Dup, Dup2, Open_pipe, Fork, Exit, Answer, Done, Descriptor, Count, Bytes, Listing, Slot, Own, slot_of, own}
-use Rattle.model.specs.Plans.{Change, changed, free, first_of_free, slot, is_pipe, status, is_special, target_limit, mode, cut_to, opened, read_pipe, read_some, place_to_write, write_some, offset_named, sought, length_named, aimed, spaced, swapped, moved, replaced_by_name, absent, duplicated, piped, forked, most_moved, whole_write, most_processes, open_limit}
+use Rattle.model.specs.Plans.{Change, changed, free, first_of_free, slot, is_pipe, status, is_special, target_limit, mode, cut_to, opened, read_pipe, read_some, place_to_write, write_some, offset_named, sought, length_named, aimed, spaced, moved, replaced_by_name, absent, duplicated, piped, forked, most_moved, whole_write, most_processes, open_limit}
 use Rattle.model.specs.Steps.{outcome, edits_of}
 use Rattle.model.proofs.Laws.{all_entries}
 use Rattle.call_laws.proofs.Laws.{after_bind, allowed, either_given, weaken, whatever}
@@ -115,14 +115,16 @@ module _ (k : Kernel) where
       (unless (not (is_directory what) && is_directory old) EISDIR _ (unless (is_directory what && not (is_directory old)) ENOTDIR _
       (then_whatever (replaced_by_name old.0 (is_directory old)) _ (λ replaced. record { numbers = (tt, tt); shares = (tt, tt) }))))
 
-  edit_sound : (b : Bool) (e : Edit) → HasNumbers (news e + 0) e → SharesThere k e → news e ≡ 0 → IsSound k (record { reply = Done; edits = if b then e ∷ [] else [] })
-  edit_sound true e h g none = record { numbers = (h, tt); shares = (g, tt) }
-  edit_sound false e h g none = unchanged_sound Done
+  -- an edit that there may be
+  edit_sound : (b : Bool) (e : Edit) → ((count : ℕ) → HasNumbers count e) → SharesThere k e → IsSound k (record { reply = Done; edits = if b then e ∷ [] else [] })
+  edit_sound true e h g = record { numbers = (h _, tt); shares = (g, tt) }
+  edit_sound false e h g = unchanged_sound Done
 
+  -- a range of a file
   spaced_sound : (n at count : ℕ) (space : Space) → IfOk (given k (spaced n at count space)) (IsSound k)
-  spaced_sound n at count Grow = edit_sound (nat_lt (answer k (Measure n)) (at + count)) (Cut n (answer k (Measure n)) (at + count)) tt tt refl
+  spaced_sound n at count Grow = edit_sound (nat_lt (answer k (Measure n)) (at + count)) (Cut n (answer k (Measure n)) (at + count)) (λ _. tt) tt
   spaced_sound n at count Keep = unchanged_sound Done
-  spaced_sound n at count Punch = edit_sound (nat_lt at (answer k (Measure n))) (Wipe n at (min count (answer k (Measure n) - at))) tt tt refl
+  spaced_sound n at count Punch = edit_sound (nat_lt at (answer k (Measure n))) (Wipe n at (min count (answer k (Measure n) - at))) (λ _. tt) tt
 
   duplicated_sound : (own : Own) (it : Slot) → Held k it → (fds : List ℕ) → IfOk (given k (duplicated own it fds)) (IsSound k)
   duplicated_sound own it there [] = tt

@@ -1,5 +1,5 @@
 -- The edits of each call fit a well-formed state, are the caller's own, and mark objects that are there.
-use Rattle.std.proofs.Common.{◌+◌, ◌≢◌, ◌∙◌, ℕ, pos, ◌+ℤ◌, true, false, not, ◌&&◌, ◌||◌, List, [], if◌then◌else◌, Option, Some, None, IfOk, refl, sym, ◌==◌, nat_lt, length, nat_le}
+use Rattle.std.proofs.Common.{◌+◌, ◌≢◌, ◌∙◌, ℕ, true, false, not, ◌&&◌, ◌||◌, List, [], if◌then◌else◌, Option, Some, None, IfOk, refl, sym, ◌==◌, nat_lt, length, nat_le}
 use Rattle.std.specs.List.{list_any}
 use Rattle.model.specs.State.{Kind, A_directory, Rights, Kernel, Link_to, kind_of}
 use Rattle.model.specs.Plan.{given, ENAMETOOLONG, ENOENT, ENOTDIR, EEXIST, EBUSY, ELOOP, EPERM, EINVAL, EISDIR, EBADF, EFBIG, ESPIPE, or_refuse}

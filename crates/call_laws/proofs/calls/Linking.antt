@@ -1,5 +1,5 @@
 -- What a call gives one more name is what it has found: only `link` gives one, and by one edit.
-use Rattle.std.proofs.Common.{◌≡◌, ℕ, ◌+◌, ◌-◌, min, ℤ, pos, negsuc, ◌+ℤ◌, Bool, true, false, not, ◌&&◌, ◌||◌, ◌==◌, List, [], ◌∷◌, ◌++◌, length, take, if◌then◌else◌, nat_lt, nat_le, Option, Some, None, Result, Ok, Err, IfOk, refl, sym, ap, subst, ◌∙◌}
+use Rattle.std.proofs.Common.{◌≡◌, ℕ, ◌+◌, ◌-◌, min, ℤ, pos, negsuc, Bool, true, false, not, ◌&&◌, ◌||◌, ◌==◌, List, [], ◌∷◌, ◌++◌, length, take, if◌then◌else◌, nat_lt, nat_le, Option, Some, None, Result, Ok, Err, IfOk, refl, sym, ap, subst, ◌∙◌}
 use Rattle.std.specs.Prelude.{⊤}
 use Rattle.std.specs.List.{list_any}
 use Rattle.model.specs.FiniteMap.{keys}
@@ -11,7 +11,7 @@ use Rattle.model.specs.Paths.{is_empty, is_below, path_names}
 use Rattle.model.specs.Walks.{Place, Last, told, parsed, walk, last_of, is_directory, is_link}
 use Rattle.ids.specs.Flags.{is_reading, is_writing, is_creating, is_exclusive, is_truncating}
 use Rattle.model.specs.Calls.{OpenFlags, Call, Open, Close, Read, Pread, Write, Pwrite, Lseek, Ftruncate, Truncate, Stat, Fstat, Link, Unlink, Rename, Exchange, Fallocate, Space, Grow, Keep, Punch, Mkdir, Rmdir, List_directory, Symlink, Readlink, Lstat, Mknod, Chmod, Chown, Fchmod, Fchown, Dup, Dup2, Open_pipe, Fork, Exit, Done, Descriptor, Count, Bytes, Slot, Own, own}
-use Rattle.model.specs.Plans.{Change, changed, unchanged, target_limit, most_processes, mode, cut_to, absent, status, is_special, slot, is_pipe, read_pipe, read_some, place_to_write, write_some, offset_named, length_named, aimed, sought, spaced, swapped, replaced_by_name, moved, opened, free, first_of_free, duplicated, piped, open_limit}
+use Rattle.model.specs.Plans.{Change, changed, unchanged, target_limit, most_processes, mode, cut_to, absent, status, is_special, slot, is_pipe, read_pipe, read_some, place_to_write, write_some, offset_named, length_named, aimed, sought, spaced, replaced_by_name, moved, opened, free, first_of_free, duplicated, piped, open_limit}
 use Rattle.model.specs.Steps.{outcome, reads, edits_of, edits}
 use Rattle.model.proofs.Laws.{all-append, append-all, goes_the_same_way}
 use Rattle.call_laws.specs.WellFormed.{WellFormed}

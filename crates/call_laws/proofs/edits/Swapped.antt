@@ -1,6 +1,6 @@
 -- Two names change places: what stays, what is alike after it, and that directories stay a tree.
-use Rattle.std.proofs.Common.{◌≡◌, ◌≢◌, ℕ, ◌+◌, ◌≤◌, ◌<◌, List, [], ◌∷◌, ◌++◌, length, Option, Some, refl, sym, ap, subst, ◌∙◌, arith, inl, inr, length-append}
-use Rattle.model.specs.FiniteMap.{FinMap, get, insert}
+use Rattle.std.proofs.Common.{◌≡◌, ◌≢◌, ℕ, ◌+◌, ◌≤◌, List, [], ◌∷◌, ◌++◌, length, Some, sym, ap, subst, ◌∙◌, arith, length-append}
+use Rattle.model.specs.FiniteMap.{get, insert}
 use Rattle.model.specs.State.{Name, A_directory, Kernel, names_of, kind_of, entry_of, links}
 use Rattle.model.specs.Aspects.{Aspect, Entry, Links, Keeps}
 use Rattle.model.specs.Changes.{set_name}

@@ -1,7 +1,7 @@
 -- What the plans of calls come to: none refuses as unsupported, and but for fork and exit each edit
 -- of processes is of the caller's own table.
 use Rattle.std.proofs.Common.{◌+◌, ◌≡◌, ℕ, List, [], ◌∷◌, Bool, true, false, not, ◌||◌, ◌&&◌, Option, Some, None, Result, Ok, Err, IfOk, refl, ap, ◌==◌, nat_lt, nat_le, if◌then◌else◌, length}
-use Rattle.std.specs.Prelude.{⊤, ℤ, pos, negsuc, ◌+ℤ◌}
+use Rattle.std.specs.Prelude.{⊤, ℤ, pos, negsuc}
 use Rattle.std.specs.List.{AllByRecursion, list_any}
 use Rattle.std.proofs.lemmas.Bool.{false≢true}
 use Rattle.model.proofs.Laws.{append-all}
@@ -13,7 +13,7 @@ use Rattle.model.specs.Walks.{told, parsed, Place, is_directory, is_link, look, 
 use Rattle.model.specs.Changes.{Edit, Replaced, Open_inode, Make_pipe, Share_slot, Clear_slot, New_process, End_process}
 use Rattle.ids.specs.Flags.{is_reading, is_writing, is_creating, is_exclusive, is_truncating}
 use Rattle.model.specs.Calls.{own, Call, Open, Close, Read, Pread, Write, Pwrite, Lseek, Ftruncate, Truncate, Stat, Fstat, Link, Unlink, Rename, Exchange, Fallocate, Space, Grow, Keep, Punch, Mkdir, Rmdir, List_directory, Symlink, Readlink, Lstat, Mknod, Chmod, Chown, Fchmod, Fchown, Dup, Dup2, Open_pipe, Fork, Exit, Whence, From_start, From_offset, From_end, To_data, To_hole, OpenFlags, Answer, Child, Slot, Own}
-use Rattle.model.specs.Plans.{Change, plan, target_limit, is_pipe, status, is_special, cut_to, opened, read_pipe, read_some, place_to_write, write_some, offset_named, write_from, sought, length_named, found_from, aimed, spaced, swapped, replaced_by_name, move_onto, moved, absent, duplicated, piped, forked, first_of_free, slot, slot_at, free, open_limit}
+use Rattle.model.specs.Plans.{Change, plan, target_limit, is_pipe, status, is_special, cut_to, opened, read_pipe, read_some, place_to_write, write_some, offset_named, write_from, sought, length_named, found_from, aimed, spaced, replaced_by_name, move_onto, moved, absent, duplicated, piped, forked, first_of_free, slot, slot_at, free, open_limit}
 use Rattle.model.specs.Entries.{is_unsupported, is_inside, answer_in}
 use Rattle.model.specs.Replies.{answered}
 use Rattle.model.specs.Steps.{outcome, reply, reply_of}

@@ -4,13 +4,17 @@ use Rattle.std.specs.Prelude.{codes}
 use Rattle.model.specs.FiniteMap.{keys}
 use Rattle.model.specs.Aspects.{Entry}
 use Rattle.model.specs.Plan.{EBUSY, EINVAL, ELOOP, ENAMETOOLONG, ENOENT, ENOTDIR}
-use Rattle.model.specs.Calls.{Open, Stat, Fstat, Link, Exchange, Mkdir, List_directory, Symlink, Lstat, Done, Listing, Descriptor}
+use Rattle.model.specs.Calls.{Open, Stat, Fstat, Link, Exchange, Mkdir, List_directory, Symlink, Lstat, Done, Listing}
 use Rattle.model.specs.Steps.{reads, writes}
 use Rattle.model.specs.Script.{runs, Line, fresh, script_replies, last_state, wronly_creat, a_file, a_directory, a_link}
 
 -- a file, a directory with another in it, and a link
 abbrev made_all : List Line
 made_all = (1, Open (codes "/a") wronly_creat, 1 ∷ 2 ∷ []) ∷ (1, Mkdir (codes "/d"), 3 ∷ []) ∷ (1, Mkdir (codes "/d/e"), 4 ∷ []) ∷ (1, Mkdir (codes "/d/e/f"), 5 ∷ []) ∷ (1, Symlink (codes "d") (codes "/l"), 6 ∷ []) ∷ []
+
+-- a directory, and a link to what is not there
+abbrev made_two : List Line
+made_two = (1, Mkdir (codes "/a"), 1 ∷ []) ∷ (1, Symlink (codes "no") (codes "/d"), 2 ∷ []) ∷ []
 
 -- whatever the two are: each is found where the other was, with all that is in it
 of_any_kinds : script_replies (last_state fresh made_all) ((2, Exchange (codes "/a") (codes "/d/e"), []) ∷ (1, Stat (codes "/a"), []) ∷ (1, Stat (codes "/a/f"), []) ∷ (1, Stat (codes "/d/e"), []) ∷ (1, Fstat 0, []) ∷ (2, Exchange (codes "/l") (codes "/d"), []) ∷ (1, Lstat (codes "/d"), []) ∷ (1, Stat (codes "/l/e"), []) ∷ (1, List_directory (codes "/"), []) ∷ [])
@@ -23,7 +27,7 @@ nothing_goes : keys (last_state fresh (made_all ++ (2, Exchange (codes "/a") (co
 unfolding runs
 nothing_goes = refl
 
-twice : last_state fresh (made_all ++ (2, Exchange (codes "/a") (codes "/d/e"), []) ∷ (1, Exchange (codes "/d/e") (codes "/a"), []) ∷ []) ≡ last_state fresh made_all
+twice : last_state fresh (made_two ++ (2, Exchange (codes "/a") (codes "/d"), []) ∷ (1, Exchange (codes "/d") (codes "/a"), []) ∷ []) ≡ last_state fresh made_two
 unfolding runs
 twice = refl
 

@@ -1,5 +1,5 @@
 -- Worked rows of ranges of a file: room for them, holes, and the places where these begin and end.
-use Rattle.std.proofs.Common.{◌≡◌, pos, negsuc, List, [], ◌∷◌, ◌++◌, Ok, Err, refl, replicate}
+use Rattle.std.proofs.Common.{◌≡◌, pos, negsuc, List, [], ◌∷◌, ◌++◌, Ok, Err, refl}
 use Rattle.std.specs.Prelude.{codes}
 use Rattle.model.specs.Aspects.{Size, Block, Offset}
 use Rattle.model.specs.Plan.{EBADF, EFBIG, EINVAL, ENXIO, ESPIPE}
