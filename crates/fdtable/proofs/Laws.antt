@@ -20,6 +20,11 @@ laid_other f (Some None) table q away = removed_other table f q away
 laid_other f None table q away = refl
 
 module _ {X : Type 0} where
+  -- what is not there is nothing
+  pub none_unless : (o : Option X) → (o ≢ None → ⊥) → o ≡ None
+  none_unless None never = refl
+  none_unless (Some x) never = absurd (never (λ e. absurd cc))
+
   put_first : (k first : ℕ) (v : X) (xs : List (Option X)) → k < first → put nat_cmp k v (placed first xs) ≡ (k, v) ∷ placed first xs
   put_first k first v [] low = refl
   put_first k first v (None ∷ xs) low = put_first k (suc first) v xs (omega arith)

@@ -11,7 +11,7 @@ use Rattle.model.specs.Places.{placed}
 use Rattle.model.proofs.Laws.{get-placed}
 use Rattle.fdtable.specs.Open.{one_if}
 use Rattle.fdtable.specs.Patches.{Given, IsLaid, laid_at, or_before}
-use Rattle.fdtable.proofs.Laws.{entries-placed, laid_same, laid_other}
+use Rattle.fdtable.proofs.Laws.{entries-placed, laid_other, laid_same, none_unless}
 
 abbrev pub in_front : ℕ → Option ℕ → List (ℕ × ℕ) → List (ℕ × ℕ)
 in_front f (Some d) es = (f, d) ∷ es
@@ -61,7 +61,7 @@ row_at m first (suc more) (suc i) low = let next : suc first + i ≡ first + suc
 
 row_is : (m : FinMap nat_cmp ℕ) (end : ℕ) → ((f : ℕ) → end ≤ f → get m f ≡ None) → from_entries (placed 0 (row m 0 end)) ≡ m
 row_is m end none = same_map nat_cmp_total nat_cmp-IsAntisymmetric _ _ (λ f. get-placed (row m 0 end) f ∙ elim (cases_lt f end) [
-  | inl low ↦ row_at m 0 end f low
+  | inl low ↦ row_at m 0 end f low ∙ (let same : 0 + f ≡ f = omega arith in ap (get m) same)
   | inr past ↦ get_or_past (row m 0 end) f None (let long : length (row m 0 end) ≡ end = row_long m 0 end in omega (arith, long, past)) ∙ sym (none f past)
 ])
 
@@ -69,6 +69,14 @@ pub all_open : (m : FinMap nat_cmp ℕ) (end : ℕ) → ((f : ℕ) → end ≤ f
 all_open m end none =
     ap (open_from m 0) (sym (row_long m 0 end)) ∙ ap (λ n. open_from n 0 (length (row m 0 end))) (sym (row_is m end none))
     ∙ open_all (row m 0 end) ∙ ap entries (row_is m end none)
+
+-- what is not open below this number is nowhere open
+pub none_behind : (m : FinMap nat_cmp ℕ) (end : ℕ) → ((f : ℕ) → get m f ≢ None → f < end) → (f : ℕ) → end ≤ f → get m f ≡ None
+none_behind m end all f past = none_unless (get m f) (λ some. omega (arith, all f some, past))
+
+-- all that is open with a patch on top
+pub all_laid : (patch : Given) (before laid : FinMap nat_cmp ℕ) (end : ℕ) → IsLaid patch before laid → ((f : ℕ) → or_before (get patch f) (get before f) ≢ None → f < end) → open_from laid 0 end ≡ entries laid
+all_laid patch before laid end is all = all_open laid end (none_behind laid end (λ f some. all f (λ none. some (is f ∙ none))))
 
 -- one more descriptor
 pub open_more : (m : FinMap nat_cmp ℕ) (first more : ℕ) (d : ℕ) (done : List (ℕ × ℕ)) → get m first ≡ Some d → done ++ open_from m first (suc more) ≡ (done ++ ((first, d) ∷ [])) ++ open_from m (first + 1) more

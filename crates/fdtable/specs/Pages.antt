@@ -51,13 +51,15 @@ is_full page = not (list_any is_none page.slots)
 abbrev pub most_pages : ℕ
 most_pages = 16384
 
--- there are no more pages than may be, each is 64 long, and a bit is set just where one is full
-pub record AreMarked (pages : List PageContent) (full : List ℕ) : Type 0 where
+-- there are no more pages than may be, each is 64 long, in one without room nothing is open, and a bit
+-- is set just where one is full
+pub record AreMarked (pages : List PageContent) (bits : List ℕ) : Type 0 where
   pub few : length pages ≤ most_pages
   pub long : AllByRecursion (λ page. length page.slots ≡ 64) pages
-  pub words : length pages ≤ 64 * length full
-  pub few_words : length full ≤ most_pages
-  pub full : (i : ℕ) → bit_in full i ≡ as_bit (is_full (get_or pages i no_page))
+  pub bare : (i : ℕ) → (get_or pages i no_page).room ≡ false → get_or pages i no_page ≡ no_page
+  pub words : length pages ≤ 64 * length bits
+  pub few_words : length bits ≤ most_pages
+  pub full : (i : ℕ) → bit_in bits i ≡ as_bit (is_full (get_or pages i no_page))
 
 -- a descriptor is open on this, or closed
 abbrev pub given_at : ℕ → Option ℕ → map.FinMap nat_cmp ℕ → map.FinMap nat_cmp ℕ

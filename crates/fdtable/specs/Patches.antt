@@ -59,10 +59,12 @@ pub record IsPatch (given : Paged) (closed : List ℕ) : Type 0 where
   pub few : length closed ≤ most_pages
 
 -- there is memory for a note of a descriptor, and for the descriptor itself
-pub record IsPlace (f : ℕ) (given : List Bool) (closed : List ℕ) (table : List Bool) : Type 0 where
+pub record IsPlace
+    (f : ℕ) (given_rooms : List Bool) (closed : List ℕ) (table_rooms : List Bool)
+    : Type 0 where
   pub low : f < DESCRIPTORS
-  pub given : HasRoom given f
+  pub given : HasRoom given_rooms f
   pub bit : f / 64 < length closed
   pub few : length closed ≤ most_pages
   pub bare : (i : ℕ) → bit_in closed i ≡ 0
-  pub table : HasRoom table f
+  pub table : HasRoom table_rooms f

@@ -1,6 +1,6 @@
 // 64 descriptors in a row.
-ghost use Rattle.std.specs.Prelude.{◌≡◌, ◌<◌, ℕ, None, true, get_or, OnErr, OnOk, IfOk};
-ghost use Rattle.std.specs.List.{set};
+ghost use Rattle.std.specs.Prelude.{◌≡◌, ◌<◌, ℕ, None, true, false, get_or, length, set};
+ghost use Rattle.std.specs.Prelude.{OnErr, OnOk, IfOk};
 ghost use Rattle.std.specs.Int.{bit_at};
 ghost use Rattle.std.specs.Option.{is_some};
 ghost use Rattle.fdtable.specs.Pages.{no_page};
@@ -21,7 +21,7 @@ pub(crate) struct Page {
     // What each is open on: 64 of them, or none where there is no room.
     slots: Vec<Option<Num>, Heap>,
     // A bit for each that is open.
-    open: u64,
+    marks: u64,
 }
 
 impl Model for Page {
@@ -36,7 +36,7 @@ impl Model for Page {
       room = not (is_empty p.slots.items);
     } };
 
-    ghost invariant = { λ p. IsPage p.slots.items p.open };
+    ghost invariant = { λ p. IsPage p.slots.items p.marks };
 }
 
 impl Page {
@@ -46,7 +46,7 @@ impl Page {
     {
         Page {
             slots: Vec::new(heap),
-            open: 0,
+            marks: 0,
         }
     }
 
@@ -62,10 +62,12 @@ impl Page {
 
     /// A bit for each descriptor of it that is open.
     pub(crate) fn word(&self) -> u64
-        ensures { (i : ℕ) → i < 64
+        ensures bits { (i : ℕ) → i < 64
             → bit_at result i ≡ as_bit (is_some (get_or self.now.slots i None)) }
+        ensures long { length self.now.slots ≡ 64 }
+        ensures bare { self.now.room ≡ false → self.now ≡ no_page }
     {
-        self.open
+        self.marks
     }
 
     /// Whether there is room for its descriptors.
@@ -96,7 +98,7 @@ impl Page {
     {
         let former = self.slots[index];
         self.slots[index] = given;
-        self.open = with_bit(self.open, index, given.is_some());
+        self.marks = with_bit(self.marks, index, given.is_some());
         former
     }
 
@@ -106,7 +108,7 @@ impl Page {
     {
         Ok(Page {
             slots: Vec::from_slice(heap, self.slots.as_slice())?,
-            open: self.open,
+            marks: self.marks,
         })
     }
 }

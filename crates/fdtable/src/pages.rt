@@ -1,7 +1,6 @@
 // The descriptors of a process in pages, and which pages are full.
-ghost use Rattle.std.specs.Prelude.{◌≡◌, ◌≢◌, ◌+◌, ◌*◌, ◌/◌, ◌<◌, ◌≤◌, ◌⊎◌, ◌||◌, ℕ, None, false};
-ghost use Rattle.std.specs.Prelude.{IfOk, IfSome, IsSome, OnOk, get_or, length};
-ghost use Rattle.std.specs.List.{set};
+ghost use Rattle.std.specs.Prelude.{◌≡◌, ◌≢◌, ◌+◌, ◌*◌, ◌/◌, ◌%◌, ◌<◌, ◌≤◌, ◌⊎◌, ◌||◌, ℕ, None, false};
+ghost use Rattle.std.specs.Prelude.{IfOk, IfSome, IsSome, OnOk, get_or, length, set};
 ghost use Rattle.std.specs.Int.{bit_at};
 ghost use Rattle.std.specs.Option.{is_some};
 ghost use Rattle.model.specs.FiniteMap as map;
@@ -56,6 +55,7 @@ impl Pages {
     pub(crate) fn get(&self, fd: Fd) -> Option<Num>
         ensures value { result ≡ map.get self.now.slots fd }
         ensures small { IsSome result → fd < DESCRIPTORS }
+        ensures room { IsSome result → HasRoom self.now.rooms fd }
     {
         match self.each.get(fd.0 as usize / PAGE_LEN) {
             Some(page) => page.get(fd.0 as usize % PAGE_LEN),
@@ -63,10 +63,12 @@ impl Pages {
         }
     }
 
-    /// Below this number is every descriptor that is open.
+    /// Below this number, at the end of a page, is every descriptor that is open, and each has room.
     pub(crate) fn end(&self) -> u32
         ensures open { (f : ℕ) → map.get self.now.slots f ≢ None → f < result }
+        ensures room { (f : ℕ) → map.get self.now.slots f ≢ None → HasRoom self.now.rooms f }
         ensures small { result ≤ DESCRIPTORS }
+        ensures whole { result % 64 ≡ 0 }
     {
         (self.each.len() * PAGE_LEN) as u32
     }
@@ -106,13 +108,14 @@ impl Pages {
         ensures value { IsOpenFrom self.now.slots first result }
         ensures small { IfSome result (λ fd. fd < DESCRIPTORS) }
     {
+        let pages = self.each.len();
         let start = first as usize / PAGE_LEN;
-        for index in start..self.each.len() {
-            let mut word = !self.word(index);
-            if index == start {
-                word = filled_below(word, first as usize % PAGE_LEN);
-            }
-            if let Some(bit) = lowest_clear(word) {
+        let word = filled_below(!self.word(start), first as usize % PAGE_LEN);
+        if let Some(bit) = lowest_clear(word) {
+            return Some(Fd((start * PAGE_LEN + bit) as u32));
+        }
+        for index in start + 1..pages {
+            if let Some(bit) = lowest_clear(!self.word(index)) {
                 return Some(Fd((index * PAGE_LEN + bit) as u32));
             }
         }
@@ -175,12 +178,8 @@ impl Pages {
     pub(crate) fn try_clone(&self, heap: Heap) -> Result<Pages, AllocError>
         ensures { IfOk result (λ pages. pages ≡ self.now) }
     {
-        let mut each = Vec::with_capacity(heap, self.each.len())?;
-        for page in &self.each {
-            each.push(page.try_clone(heap)?)?;
-        }
         Ok(Pages {
-            each,
+            each: copies(heap, self.each.as_slice())?,
             full: Vec::from_slice(heap, self.full.as_slice())?,
         })
     }
@@ -192,11 +191,12 @@ impl Pages {
         ensures rooms { (f : ℕ) → (HasRoom self.old.rooms f) ⊎ (HasRoom room.rooms f)
             → HasRoom self.new.rooms f }
     {
-        let mut other = room;
-        if self.each.len() < other.each.len() {
-            mem::swap(self, &mut other);
+        if self.each.len() < room.each.len() {
+            let shorter = mem::replace(self, room);
+            self.take_pages(shorter);
+        } else {
+            self.take_pages(room);
         }
-        self.take_pages(other);
     }
 
     // Takes pages for which it has places. At each place one of the two has nothing open.
@@ -227,9 +227,32 @@ impl Pages {
             (get_or self.old.rooms index false || page.room) }
     {
         if page.word() != 0 || !self.each[index].has_room() {
-            let is_full = lowest_clear(page.word()).is_none();
-            self.each[index] = page;
-            mark(self.full.as_mut_slice(), index, is_full);
+            self.put_page(index, page);
         }
     }
+
+    // A page stands at this place from now on.
+    fn put_page(&mut self, index: usize, page: Page)
+        requires { index < length self.old.rooms }
+        ensures here { (i : ℕ) → i < 64
+            → map.get self.new.slots (64 * index + i) ≡ get_or page.slots i None }
+        ensures others { (f : ℕ) → f / 64 ≢ index
+            → map.get self.new.slots f ≡ map.get self.old.slots f }
+        ensures rooms { self.new.rooms ≡ set self.old.rooms index page.room }
+    {
+        let is_full = lowest_clear(page.word()).is_none();
+        self.each[index] = page;
+        mark(self.full.as_mut_slice(), index, is_full);
+    }
+}
+
+// Copies of pages, in the same order. Refused memory gives nothing.
+fn copies(heap: Heap, pages: &[Page]) -> Result<Vec<Page, Heap>, AllocError>
+    ensures { IfOk result (λ copies. copies.items ≡ pages.now) }
+{
+    let mut copies = Vec::with_capacity(heap, pages.len())?;
+    for page in pages {
+        copies.push(page.try_clone(heap)?)?;
+    }
+    Ok(copies)
 }

@@ -1,6 +1,6 @@
 // What a transaction changed in the descriptors of one process.
 ghost use Rattle.std.specs.Prelude.{◌≡◌, ◌≢◌, ◌+◌, ◌*◌, ◌<◌, ℕ, None, IfOk, IfSome, OnErr, OnOk};
-ghost use Rattle.std.specs.Prelude.{◌==◌, ◌/◌, Some, count_by, length};
+ghost use Rattle.std.specs.Prelude.{◌==◌, ◌/◌, ◌≤◌, Some, count_by, length};
 ghost use Rattle.std.specs.Int.{bit_at};
 ghost use Rattle.std.specs.Option.{is_none, is_some};
 ghost use Rattle.std.specs.Ordering.{nat_cmp};
@@ -8,7 +8,7 @@ ghost use Rattle.model.specs.State.{mapped};
 ghost use Rattle.model.specs.FiniteMap as map;
 ghost use Rattle.ids.specs.declared.limits.TheConstants.{DESCRIPTORS};
 ghost use Rattle.fdtable.specs.Lowest.{IsFree, IsLowest, IsNotedFrom};
-ghost use Rattle.fdtable.specs.Pages.{HasRoom, given_at};
+ghost use Rattle.fdtable.specs.Pages.{HasRoom, given_at, most_pages};
 ghost use Rattle.fdtable.specs.Patches.{IsLaid, IsFormer, laid_at, or_before};
 ghost use Rattle.fdtable.specs.Words.{as_bit, bit_in};
 
@@ -134,13 +134,14 @@ impl SlotPatch {
         ensures value { IsNotedFrom self.now first result }
         ensures small { IfSome result (λ fd. fd < DESCRIPTORS) }
     {
+        let pages = self.pages();
         let start = first as usize / PAGE_LEN;
-        for index in start..self.pages() {
-            let mut word = !self.noted_word(index);
-            if index == start {
-                word = filled_below(word, first as usize % PAGE_LEN);
-            }
-            if let Some(bit) = lowest_clear(word) {
+        let word = filled_below(!self.noted_word(start), first as usize % PAGE_LEN);
+        if let Some(bit) = lowest_clear(word) {
+            return Some(Fd((start * PAGE_LEN + bit) as u32));
+        }
+        for index in start + 1..pages {
+            if let Some(bit) = lowest_clear(!self.noted_word(index)) {
                 return Some(Fd((index * PAGE_LEN + bit) as u32));
             }
         }
@@ -149,9 +150,10 @@ impl SlotPatch {
 
     // How many pages may have something noted.
     fn pages(&self) -> usize
-        ensures { (f : ℕ) → map.get self.now f ≢ None → f < 64 * result }
+        ensures noted { (f : ℕ) → map.get self.now f ≢ None → f < 64 * result }
+        ensures small { result ≤ most_pages }
     {
-        (self.given.end() as usize / PAGE_LEN).max(self.closed.len())
+        self.closed.len()
     }
 
     // Of which descriptors of a page something is noted, a bit for each.

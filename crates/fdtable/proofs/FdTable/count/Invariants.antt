@@ -5,4 +5,4 @@ use Rattle.fdtable.proofs.FdTable.count.Given as goal
 
 abbrev pub invariant-loop-number : goal.invariant-loop-number
 invariant-loop-number l =
-    (l.count ≤ l.number) × (l.count + among l.description (open_from l.self l.number (l.end - l.number)) ≡ among l.description (map.entries l.self))
+    (l.count ≤ l.number) × (l.count + among l.description (open_from l.self l.number (l.number-end - l.number)) ≡ among l.description (map.entries l.self))

@@ -5,4 +5,4 @@ use Rattle.fdtable.proofs.FdTable.entries.Given as goal
 
 abbrev pub invariant-loop-number : goal.invariant-loop-number
 invariant-loop-number l =
-    l.entries.items ++ open_from l.self l.number (l.end - l.number) ≡ map.entries l.self
+    l.entries.items ++ open_from l.self l.number (l.number-end - l.number) ≡ map.entries l.self

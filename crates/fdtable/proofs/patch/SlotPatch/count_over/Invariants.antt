@@ -8,4 +8,4 @@ use Rattle.fdtable.proofs.patch.SlotPatch.count_over.Given as goal
 abbrev pub invariant-loop-number : goal.invariant-loop-number
 invariant-loop-number l =
     (l.count ≤ l.number)
-    × ((laid : FinMap nat_cmp ℕ) → IsLaid l.self l.table laid → l.count + among l.description (open_from laid l.number (l.end_over - l.number)) ≡ among l.description (entries laid))
+    × ((laid : FinMap nat_cmp ℕ) → IsLaid l.self l.table laid → l.count + among l.description (open_from laid l.number (l.number-end - l.number)) ≡ among l.description (entries laid))

@@ -7,4 +7,4 @@ use Rattle.fdtable.proofs.patch.SlotPatch.entries_over.Given as goal
 
 abbrev pub invariant-loop-number : goal.invariant-loop-number
 invariant-loop-number l =
-    (laid : FinMap nat_cmp ℕ) → IsLaid l.self l.table laid → l.entries.items ++ open_from laid l.number (l.end_over - l.number) ≡ entries laid
+    (laid : FinMap nat_cmp ℕ) → IsLaid l.self l.table laid → l.entries.items ++ open_from laid l.number (l.number-end - l.number) ≡ entries laid

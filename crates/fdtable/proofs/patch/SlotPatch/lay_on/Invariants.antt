@@ -1,18 +1,15 @@
 -- The changes below this number are laid, and what the table gave stands in their places; there is room
 -- for all others.
-use Rattle.std.proofs.Common.{◌≡◌, ◌≢◌, ℕ, ◌-◌, ◌<◌, ◌≤◌, None}
+use Rattle.std.proofs.Common.{◌≢◌, ℕ, ◌-◌, None}
 use Rattle.model.specs.FiniteMap.{get}
-use Rattle.model.specs.State.{mapped}
 use Rattle.ids.specs.declared.limits.TheConstants.{DESCRIPTORS}
 use Rattle.fdtable.specs.Pages.{HasRoom}
-use Rattle.fdtable.proofs.Opened.{LaidBelow}
+use Rattle.fdtable.proofs.Laying.{AreSwapped}
 use Rattle.fdtable.proofs.patch.SlotPatch.lay_on.Given as goal
 
 abbrev pub invariant-loop-from : goal.invariant-loop-from
 invariant-loop-from l = record {
-  laid : LaidBelow l.fn.self l.fn.table l.table l.from;
-  former : (f : ℕ) → f < l.from → get l.self f ≡ mapped (λ _. get l.fn.table f) (get l.fn.self f);
-  left : (f : ℕ) → l.from ≤ f → get l.self f ≡ get l.fn.self f;
+  swapped : AreSwapped l.fn.self l.fn.table l.table-inside.pages.slots l.self l.from;
   room : (f : ℕ) → get l.fn.self f ≢ None → HasRoom l.table-inside.pages.rooms f;
 }
 
