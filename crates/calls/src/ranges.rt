@@ -52,10 +52,11 @@ fn must_end_within(offset: u64, count: u64, largest: u32) -> Result<(), Refusal>
     ensures value { Tells (refuse_if (nat_lt largest (offset + count)) EFBIG) result }
     ensures within { IfOk result (λ _. offset + count ≤ largest) }
 {
-    refuse_if(
-        u128::from(largest) < u128::from(offset) + u128::from(count),
-        Errno::EFBIG,
-    )
+    if u128::from(largest) < u128::from(offset) + u128::from(count) {
+        Err(Refusal::Errno(Errno::EFBIG))
+    } else {
+        Ok(())
+    }
 }
 
 // What becomes of a range of a file.

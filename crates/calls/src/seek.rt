@@ -1,8 +1,10 @@
 // The plan of lseek.
-ghost use Rattle.std.specs.Prelude.{◌≡◌, ◌+◌, ◌-◌, ◌/◌, ◌≤◌, ◌<◌, ℕ, ℤ, min, suc};
+ghost use Rattle.std.specs.Prelude.{◌≡◌, ◌+◌, ◌-◌, ◌/◌, ◌≤◌, ◌<◌, ◌&&◌, ℕ, ℤ, min, suc, not};
+ghost use Rattle.std.specs.Prelude.{nat_le};
 ghost use Rattle.ids.specs.declared.limits.TheConstants.{LARGEST_FILE};
 ghost use Rattle.model.specs.Holes.{behind_blocks};
 ghost use Rattle.model.specs.Limits.{block_length};
+ghost use Rattle.model.specs.Plan.{refuse_if, ENXIO};
 ghost use Rattle.model.specs.Plans.{plan, aimed, found_from, sought};
 ghost use Rattle.model.specs.Calls.{Lseek};
 ghost use Rattle.look.specs.Asked.{Comes, Tells};
@@ -91,8 +93,15 @@ fn found_from<L: Look>(
     let from = from as u32;
     let passed = pass(look, file, !holes, row(from, size), reads)?;
     let place = behind_blocks(from, passed);
-    refuse_if(!holes && u64::from(size) <= place, Errno::ENXIO)?;
+    must_not_lack_data(holes, size, place)?;
     Ok(within(size, place))
+}
+
+// Behind a file's end there is no data.
+fn must_not_lack_data(holes: bool, size: u32, place: u64) -> Result<(), Refusal>
+    ensures { Tells (refuse_if (not holes && nat_le size place) ENXIO) result }
+{
+    refuse_if(!holes && u64::from(size) <= place, Errno::ENXIO)
 }
 
 // The blocks of a file from a place on: the first of them, and how many there are.

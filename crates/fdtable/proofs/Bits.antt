@@ -1,6 +1,6 @@
 -- Bits of a word, and of words in a row; and the lowest of a row that is clear, which is looked for word
 -- by word.
-use Rattle.std.proofs.Common.{◌≡◌, ℕ, ◌+◌, ◌-◌, ◌*◌, ◌/◌, ◌%◌, ◌^◌, ◌<◌, ◌≤◌, max, List, [], ◌∷◌, ◌++◌, length, get_or, nat_eq, suc, ◌≢◌, bit_and, Option, Some, None, refl, sym, ap, ◌∙◌, arith, inl, inr}
+use Rattle.std.proofs.Common.{◌≡◌, ℕ, ◌+◌, ◌-◌, ◌*◌, ◌/◌, ◌%◌, ◌^◌, ◌<◌, ◌≤◌, List, [], ◌∷◌, ◌++◌, length, get_or, drop, nat_eq, suc, ◌≢◌, bit_and, Some, None, refl, sym, ap, ◌∙◌, arith, inl, inr, length-append, length-drop}
 use Rattle.std.specs.Int.{bit_at}
 use Rattle.std.specs.Int.RustNames.{bit_or}
 use Rattle.std.proofs.Math.ListN.{set}
@@ -142,3 +142,21 @@ module _ (bit : ℕ → ℕ) (first index word : ℕ) (shows : Shows bit index w
     | inl before ↦ so_far i from before
     | inr here ↦ of_word bit index word i shows (omega (arith, here, low)) ∙ lowest (i % 64) (omega arith)
   ]
+
+-- words over the first of a row in which no bit is set
+in_front : (words others : List ℕ) (k j : ℕ) → length words ≤ length others → ((n : ℕ) → bit_at (get_or others n 0) j ≡ 0) → bit_at (get_or (words ++ drop (length words) others) k 0) j ≡ bit_at (get_or words k 0) j
+in_front [] others k j long none = none k ∙ sym (bit_at-zero j)
+in_front (w ∷ ws) [] k j long none = absurd (omega (arith, long))
+in_front (w ∷ ws) (o ∷ os) ℕ.zero j long none = refl
+in_front (w ∷ ws) (o ∷ os) (suc k) j long none = in_front ws os k j (omega (arith, long)) (λ n. none (suc n))
+
+-- have the bits of the words
+pub front_bits : (words others : List ℕ) → length words ≤ length others → ((i : ℕ) → bit_in others i ≡ 0) → (i : ℕ) → bit_in (words ++ drop (length words) others) i ≡ bit_in words i
+front_bits words others long none i = in_front words others (i / 64) (i % 64) long (λ n. shows_words others n (i % 64) (omega arith) ∙ none (64 * n + i % 64))
+
+-- and the length of the row
+pub front_long : (words others : List ℕ) → length words ≤ length others → length (words ++ drop (length words) others) ≡ length others
+front_long words others long =
+    let count : length (words ++ drop (length words) others) ≡ length words + length (drop (length words) others) = length-append words (drop (length words) others) in
+    let rest : length (drop (length words) others) ≡ length others - length words = length-drop (length words) others in
+    omega (arith, count, rest, long)

@@ -1,23 +1,18 @@
 -- Pages that come to others in their places, from the last on: what is open in either, and the room of
 -- both.
-use Rattle.std.proofs.Common.{◌≡◌, ◌≢◌, ℕ, suc, ◌+◌, ◌-◌, ◌*◌, ◌/◌, ◌%◌, ◌^◌, ◌<◌, ◌≤◌, List, [], ◌∷◌, ◌++◌, length, get_or, length-append, Bool, true, false, ◌||◌, ◌⊎◌, Option, Some, None, nat_cmp, refl, sym, ap, subst, ◌∙◌, arith, inl, inr}
+use Rattle.std.proofs.Common.{◌≡◌, ◌≢◌, ℕ, ◌+◌, ◌*◌, ◌/◌, ◌%◌, ◌^◌, ◌<◌, ◌≤◌, List, [], ◌∷◌, ◌++◌, length, get_or, length-append, Bool, true, false, ◌||◌, ◌⊎◌, Option, Some, None, nat_cmp, refl, sym, ap, subst, ◌∙◌, arith, inl, inr}
 use Rattle.std.proofs.Math.ListN.{set}
-use Rattle.std.specs.List.{AllByRecursion}
 use Rattle.std.specs.Option.{is_some}
 use Rattle.std.specs.Cmp.{nat_cmp_total}
 use Rattle.std.specs.Int.{bit_at}
 use Rattle.std.proofs.lemmas.Bool.{cases_eq, cases_lt, true_from_ne_false}
 use Rattle.std.proofs.lemmas.Grind.{get_or-set_at}
-use Rattle.std.proofs.lemmas.List.{get_or_append_left, get_or_past, get_or_push, get_or-set_other, length-map, length-set}
+use Rattle.std.proofs.lemmas.List.{get_or_append_left, get_or_past, get_or_push, get_or_read, get_or-set_other, length-map, length-set}
 use Rattle.std.proofs.lemmas.Nat.Bits.{bit_at-zero, same_from_bits_below}
 use Rattle.model.specs.FiniteMap.{FinMap, empty, get, get-empty, same_map, nat_cmp-IsAntisymmetric}
 use Rattle.fdtable.specs.Pages.{AreMarked, HasRoom, PageContent, Paged, no_page, or_other, rooms_of}
 use Rattle.fdtable.specs.Words.{as_bit}
-use Rattle.fdtable.proofs.Paged.{AreLong, none_given, none_past, page_in, paged, room_of, slot_in, table_of, zero_bit}
-
--- a page whose word is 0 has nothing open, and the other way round
-pub none_open : (page : PageContent) (word : ℕ) → ((i : ℕ) → i < 64 → bit_at word i ≡ as_bit (is_some (get_or page.slots i None))) → word ≡ 0 → (i : ℕ) → i < 64 → get_or page.slots i None ≡ None
-none_open page word bits is i low = zero_bit (get_or page.slots i None) (sym (bits i low) ∙ ap (λ w. bit_at w i) is ∙ bit_at-zero i)
+use Rattle.fdtable.proofs.Paged.{AreLong, none_given, none_past, page_in, paged, room_of, seen_of, seen_word, slot_in, table_of}
 
 pub no_word : (page : PageContent) (word : ℕ) → word < 2 ^ 64 → ((i : ℕ) → i < 64 → bit_at word i ≡ as_bit (is_some (get_or page.slots i None))) → ((i : ℕ) → i < 64 → get_or page.slots i None ≡ None) → word ≡ 0
 no_word page word small bits none = same_from_bits_below 64 word 0 small (omega arith) (λ i low. bits i low ∙ ap (λ o. as_bit (is_some o)) (none i low) ∙ sym (bit_at-zero i))
@@ -25,6 +20,11 @@ no_word page word small bits none = same_from_bits_below 64 word 0 small (omega 
 -- a page with something open has room
 pub open_room : (page : PageContent) (word : ℕ) → word < 2 ^ 64 → ((i : ℕ) → i < 64 → bit_at word i ≡ as_bit (is_some (get_or page.slots i None))) → (page.room ≡ false → page ≡ no_page) → word ≢ 0 → page.room ≡ true
 open_room page word small bits bare some = true_from_ne_false page.room (λ e. some (no_word page word small bits (λ i low. ap (λ (p : PageContent). get_or p.slots i None) (bare e) ∙ none_given 64 i)))
+
+-- where a page with something open comes, nothing is open
+pub comes : (page : PageContent) (word : ℕ) (at : ℕ → Option ℕ) → word < 2 ^ 64 → ((i : ℕ) → i < 64 → bit_at word i ≡ as_bit (is_some (get_or page.slots i None))) → word ≢ 0 → ((i : ℕ) → i < 64 → at i ≡ None) ⊎ ((i : ℕ) → get_or page.slots i None ≡ None) → (i : ℕ) → i < 64 → at i ≡ None
+comes page word at small bits some (inl none) i low = none i low
+comes page word at small bits some (inr none) i low = absurd (some (no_word page word small bits (λ i low. none i)))
 
 pub other_none : (x o : Option ℕ) → o ≡ None → x ≡ or_other x o
 other_none (Some d) o is = refl
@@ -174,3 +174,16 @@ module _ (mine theirs now : Paged) (so : AreTaken mine theirs now []) where
 -- how many pages there are, by what a contract sees of them
 pub rooms_long : (pages : List PageContent) (seen : Paged) → ◌≡◌ {A = Paged} (record { slots = table_of pages; rooms = rooms_of pages }) seen → length seen.rooms ≡ length pages
 rooms_long pages seen is = ap (λ (p : Paged). length p.rooms) (sym is) ∙ length-map pages (λ (p : PageContent). p.room)
+
+-- at a place without room nothing is open
+module _ (pages : List PageContent) (bits : List ℕ) (marked : AreMarked pages bits) (seen : Paged) (is : seen_of pages ≡ seen) (n : ℕ) (page : PageContent) (low : n < length pages) (at : page ≡ get_or pages n page) (no_room : page.room ≡ false) where
+  here_in : page ≡ page_in pages n
+  here_in = get_or_read pages n page low at no_page
+
+  pub place_none : (i : ℕ) → i < 64 → get seen.slots (64 * n + i) ≡ None
+  place_none i small =
+      sym (seen_word pages bits marked seen is n i page small here_in)
+      ∙ ap (λ (p : PageContent). get_or p.slots i None) (here_in ∙ marked.bare n (ap (λ (p : PageContent). p.room) (sym here_in) ∙ no_room)) ∙ none_given 64 i
+
+  pub place_bare : get_or seen.rooms n false ≡ false
+  place_bare = ap (λ (p : Paged). get_or p.rooms n false) (sym is) ∙ room_of pages n ∙ ap (λ (p : PageContent). p.room) (sym here_in) ∙ no_room

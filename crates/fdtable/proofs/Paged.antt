@@ -1,5 +1,5 @@
 -- What pages give, descriptor by descriptor.
-use Rattle.std.proofs.Common.{◌≡◌, ◌≢◌, ℕ, suc, ◌+◌, ◌-◌, ◌*◌, ◌/◌, ◌%◌, ◌<◌, ◌≤◌, List, [], ◌∷◌, ◌++◌, length, length-append, get_or, replicate, Bool, true, false, not, Option, Some, None, nat_cmp, refl, sym, ap, ◌∙◌, arith, inl, inr}
+use Rattle.std.proofs.Common.{◌≡◌, ◌≢◌, ℕ, suc, ◌+◌, ◌-◌, ◌*◌, ◌/◌, ◌%◌, ◌<◌, ◌≤◌, List, [], ◌∷◌, ◌++◌, length, length-append, get_or, replicate, Bool, true, false, not, Option, Some, None, nat_cmp, Result, Ok, Err, OnOk, OnErr, refl, sym, ap, ◌∙◌, arith, inl, inr}
 use Rattle.std.proofs.Math.ListN.{set}
 use Rattle.std.specs.List.{AllByRecursion, list_any}
 use Rattle.std.specs.Option.{is_none, is_some}
@@ -7,8 +7,7 @@ use Rattle.std.specs.Cmp.{nat_cmp_total}
 use Rattle.std.specs.Int.{bit_at}
 use Rattle.std.proofs.lemmas.Bool.{cases_eq, cases_lt, true_from_ne_false}
 use Rattle.std.proofs.lemmas.Grind.{get_or-set_at}
-use Rattle.std.proofs.lemmas.Nat.Bits.{bit_at-zero}
-use Rattle.std.proofs.lemmas.List.{get_or_append_left, length-map, get_or-append_right, get_or_past, get_or-set_other, length-set}
+use Rattle.std.proofs.lemmas.List.{get_or_append_left, get_or-append_right, get_or_past, get_or-set_other, length-set}
 use Rattle.model.specs.FiniteMap.{FinMap, get, from_entries, same_map, nat_cmp-IsAntisymmetric}
 use Rattle.model.specs.Places.{placed}
 use Rattle.model.proofs.Laws.{get-placed, get_same, get_other, removed_same, removed_other}
@@ -76,7 +75,7 @@ pub has_room : (pages : List PageContent) (bits : List ℕ) → AreMarked pages 
 has_room pages bits marked f some =
     room_of pages (f / 64)
     ∙ true_from_ne_false (page_in pages (f / 64)).room (λ e. some (
-      paged pages marked.long f ∙ ap (λ (p : PageContent). get_or p.slots (f % 64) None) (marked.bare (f / 64) e) ∙ none_given 64 (f % 64)))
+    paged pages marked.long f ∙ ap (λ (p : PageContent). get_or p.slots (f % 64) None) (marked.bare (f / 64) e) ∙ none_given 64 (f % 64)))
 
 pub long_at : (pages : List PageContent) → AreLong pages → (i : ℕ) → length (page_in pages i).slots ≡ 64
 long_at [] long i = refl
@@ -268,20 +267,6 @@ rooms_kept [] n page is = refl
 rooms_kept (p ∷ ps) ℕ.zero page is = ap (λ r. r ∷ rooms_of ps) is
 rooms_kept (p ∷ ps) (suc n) page is = ap (λ rs. p.room ∷ rs) (rooms_kept ps n page is)
 
-pub count_rooms : (pages : List PageContent) → length (rooms_of pages) ≡ length pages
-count_rooms pages = length-map pages (λ (p : PageContent). p.room)
-
--- no pages
-pub marked_none : AreMarked [] []
-marked_none = record {
-  few = omega arith;
-  long = tt;
-  bare = λ i e. refl;
-  words = omega arith;
-  few_words = omega arith;
-  full = λ i. bit_at-zero (i % 64);
-}
-
 -- what a contract sees of pages
 abbrev pub seen_of : List PageContent → Paged
 seen_of pages = record { slots = table_of pages; rooms = rooms_of pages }
@@ -315,3 +300,50 @@ module _ (pages : List PageContent) (bits : List ℕ) (marked : AreMarked pages 
   pub seen_word : (n i : ℕ) (page : PageContent) → i < 64 → page ≡ page_in pages n → get_or page.slots i None ≡ get seen.slots (64 * n + i)
   seen_word n i page low here =
       ap (λ (p : PageContent). get_or p.slots i None) here ∙ sym (paged_at pages marked.long n i low) ∙ ap (λ (p : Paged). get p.slots (64 * n + i)) is
+
+-- where there is room a page is there
+pub room_low : (pages : List PageContent) (f : ℕ) → HasRoom (rooms_of pages) f → f / 64 < length pages
+room_low pages f room = elim (cases_lt (f / 64) (length pages)) [
+  | inl low ↦ low
+  | inr past ↦ absurd (let no : false ≡ true = sym (ap (λ (p : PageContent). p.room) (get_or_past pages (f / 64) no_page past)) ∙ sym (room_of pages (f / 64)) ∙ room in cc)
+]
+
+-- one descriptor of a page with room is open on this now, or closed
+module _ (pages : List PageContent) (bits : List ℕ) (marked : AreMarked pages bits) (f : ℕ) (o : Option ℕ) (has : HasRoom (rooms_of pages) f) (page : PageContent) (is : page ≡ put_in (page_in pages (f / 64)) (f % 64) o) where
+  its_long : length page.slots ≡ 64
+  its_long = ap (λ (p : PageContent). length p.slots) is ∙ put_long pages marked.long f o (room_low pages f has)
+
+  its_room : page.room ≡ (page_in pages (f / 64)).room
+  its_room = ap (λ (p : PageContent). p.room) is
+
+  pub put_marked : (word : ℕ) (r : Option ℕ) (later : List ℕ) → ((i : ℕ) → i < 64 → bit_at word i ≡ as_bit (is_some (get_or page.slots i None))) → IsLowestClear word r → bit_in later (f / 64) ≡ as_bit (is_none r)
+      → ((i : ℕ) → i ≢ f / 64 → bit_in later i ≡ bit_in bits i) → length later ≡ length bits → AreMarked (set pages (f / 64) page) later
+  put_marked word r later shows lowest here others count =
+      marked_set pages marked.long (f / 64) page (room_low pages f has) its_long bits later marked
+      (λ e. absurd (let no : false ≡ true = sym e ∙ its_room ∙ sym (room_of pages (f / 64)) ∙ has in cc)) (here ∙ ap as_bit (full_word page word r its_long shows lowest)) others count
+
+  pub put_table : table_of (set pages (f / 64) page) ≡ given_at f o (table_of pages)
+  put_table = ap (λ (p : PageContent). table_of (set pages (f / 64) p)) is ∙ put_slot pages marked.long f o (room_low pages f has)
+
+  pub put_rooms : rooms_of (set pages (f / 64) page) ≡ rooms_of pages
+  put_rooms = rooms_kept pages (f / 64) page its_room
+
+-- what a page is once room was asked for
+pub promise_slots : {A E : Type 0} (r : Result A E) (old new : PageContent) → OnOk r (new ≡ record old { room = true }) → OnErr r (new ≡ old) → new.slots ≡ old.slots
+promise_slots (Ok x) old new ok err = ap (λ (p : PageContent). p.slots) ok
+promise_slots (Err e) old new ok err = ap (λ (p : PageContent). p.slots) err
+
+-- it has no less room
+pub promise_more : {A E : Type 0} (r : Result A E) (old new : PageContent) → OnOk r (new ≡ record old { room = true }) → OnErr r (new ≡ old) → old.room ≡ true → new.room ≡ true
+promise_more (Ok x) old new ok err room = ap (λ (p : PageContent). p.room) ok
+promise_more (Err e) old new ok err room = ap (λ (p : PageContent). p.room) err ∙ room
+
+-- without room nothing is open in it
+pub promise_bare : {A E : Type 0} (r : Result A E) (old new : PageContent) → OnOk r (new ≡ record old { room = true }) → OnErr r (new ≡ old) → (old.room ≡ false → old ≡ no_page) → new.room ≡ false → new ≡ no_page
+promise_bare (Ok x) old new ok err bare e = absurd (let no : true ≡ false = sym (ap (λ (p : PageContent). p.room) ok) ∙ e in cc)
+promise_bare (Err e) old new ok err bare none = err ∙ bare (sym (ap (λ (p : PageContent). p.room) err) ∙ none)
+
+-- and its descriptors have room, unless memory was refused
+pub promise_has : {A E : Type 0} (r : Result A E) (pages : List PageContent) (f : ℕ) (new : PageContent) → f / 64 < length pages → OnOk r (new ≡ record (page_in pages (f / 64)) { room = true }) → OnOk r (HasRoom (rooms_of (set pages (f / 64) new)) f)
+promise_has (Ok x) pages f new low ok = room_of (set pages (f / 64) new) (f / 64) ∙ ap (λ (p : PageContent). p.room) (get_or-set_at pages (f / 64) (f / 64) new no_page refl low ∙ ok)
+promise_has (Err e) pages f new low ok = tt

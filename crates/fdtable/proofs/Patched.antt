@@ -1,5 +1,5 @@
 -- What is noted in pages and words, descriptor by descriptor.
-use Rattle.std.proofs.Common.{◌≡◌, ◌≢◌, ℕ, suc, ◌+◌, ◌-◌, ◌*◌, ◌/◌, ◌%◌, ◌^◌, ◌<◌, ◌≤◌, bit_and, bit_or, max, min, ◌==◌, ◌⊎◌, cond, Bool, true, false, List, [], ◌∷◌, length, get_or, map, Option, Some, None, nat_cmp, refl, sym, ap, ap₂, subst, ◌∙◌, arith, inl, inr}
+use Rattle.std.proofs.Common.{◌≡◌, ◌≢◌, ℕ, suc, ◌+◌, ◌-◌, ◌*◌, ◌/◌, ◌%◌, ◌^◌, ◌<◌, ◌≤◌, bit_and, bit_or, max, min, ◌==◌, ◌⊎◌, cond, Bool, true, false, List, [], length, get_or, map, Option, Some, None, nat_cmp, Result, Ok, Err, OnErr, refl, sym, ap, ap₂, subst, ◌∙◌, arith, inl, inr}
 use Rattle.std.specs.Int.{bit_at, bit_not}
 use Rattle.std.specs.Option.{is_none, is_some}
 use Rattle.std.specs.Cmp.{nat_cmp_total}
@@ -43,6 +43,10 @@ noted_is given closed so f = get-placed (notes_of given closed) f ∙ elim (case
       ∙ sym (none_unless (noted_at given closed f) (λ some. let place = so.places f some in omega (arith, place.1, past)))
 ]
 
+-- the same by what was read of a descriptor and of its bit
+pub noted_as : (given : Paged) (closed : List ℕ) → IsPatch given closed → (seen : Given) → notes given closed ≡ seen → (f : ℕ) (o : Option ℕ) (bit : ℕ) → o ≡ get given.slots f → bit ≡ bit_in closed f → noted_by o bit ≡ get seen f
+noted_as given closed so seen is f o bit slot here = ap₂ noted_by slot here ∙ sym (noted_is given closed so f) ∙ ap (λ (m : Given). get m f) is
+
 -- there is room for what is noted
 pub noted_room : (given : Paged) (closed : List ℕ) → IsPatch given closed → (f : ℕ) → get (notes given closed) f ≢ None → HasRoom given.rooms f × (f / 64 < length closed)
 noted_room given closed so f some = so.places f (λ none. some (noted_is given closed so f ∙ none))
@@ -60,6 +64,15 @@ module _ (given more : Paged) (closed longer : List ℕ) (so : IsPatch given clo
 
   pub grown_same : IsPatch more longer → notes more longer ≡ notes given closed
   grown_same now = same_map nat_cmp_total nat_cmp-IsAntisymmetric _ _ (λ f. noted_is more longer now f ∙ same_at f ∙ sym (noted_is given closed so f))
+
+  -- and so the same patch is seen
+  pub grown_view : ((f : ℕ) → HasRoom given.rooms f → HasRoom more.rooms f) → length closed ≤ length longer → length longer ≤ most_pages → (seen : Given) → notes given closed ≡ seen → notes more longer ≡ seen
+  grown_view rooms long few seen is = grown_same (grown rooms long few) ∙ is
+
+-- what holds whatever came is so at an error
+pub on_err : {A E : Type 0} (r : Result A E) (P : Type 0) → P → OnErr r P
+on_err (Ok x) P p = tt
+on_err (Err e) P p = p
 
 -- a note in which a bit says that it closes
 noted_new : (note : Option ℕ) → noted_by note (as_bit (is_none note)) ≡ Some note
@@ -89,6 +102,22 @@ module _ (given now : Paged) (closed later : List ℕ) (f : ℕ) (note : Option 
     | inl e ↦ ap (noted_at now later) e ∙ noted_here ∙ sym (ap (get (insert (notes given closed) f note)) e ∙ get_same (notes given closed) f note)
     | inr away ↦ noted_other q away ∙ sym (get_other (notes given closed) f q note away ∙ noted_is given closed so q)
   ])
+
+-- a note in room that came for it
+module _ (given more now : Paged) (closed longer later : List ℕ) (f : ℕ) (note : Option ℕ) (so : IsPatch given closed)
+    (same : more.slots ≡ given.slots) (bits : (q : ℕ) → bit_in longer q ≡ bit_in closed q) (kept : (q : ℕ) → HasRoom given.rooms q → HasRoom more.rooms q) (long : length closed ≤ length longer) (few : length longer ≤ most_pages)
+    (slots : now.slots ≡ given_at f note more.slots) (rooms : now.rooms ≡ more.rooms) (here : bit_in later f ≡ as_bit (is_none note)) (others : (q : ℕ) → q ≢ f → bit_in later q ≡ bit_in longer q) (count : length later ≡ length longer)
+    (room : HasRoom more.rooms f) (low : f / 64 < length longer) where
+  more_patch : IsPatch more longer
+  more_patch = grown given more closed longer so same bits kept long few
+
+  pub made_patch : IsPatch now later
+  made_patch = noted_patch more now longer later f note more_patch slots rooms here others count room low
+
+  pub made_notes : (seen : Given) → notes given closed ≡ seen → notes now later ≡ insert seen f note
+  made_notes seen is =
+      noted_insert more now longer later f note more_patch slots rooms here others count made_patch
+      ∙ ap (λ (m : Given). insert m f note) (grown_same given more closed longer so same bits more_patch ∙ is)
 
 -- whether something is noted
 pub noted_bit : (given : Option ℕ) (bit : ℕ) → bit < 2 → max (as_bit (is_some given)) bit ≡ as_bit (is_some (noted_by given bit))

@@ -1,19 +1,19 @@
 -- What is found by words of bits: the lowest descriptor that is free, or open, or of which something is
 -- noted.
-use Rattle.std.proofs.Common.{◌≡◌, ◌≢◌, ℕ, ◌+◌, ◌-◌, ◌*◌, ◌/◌, ◌%◌, ◌^◌, ◌<◌, ◌≤◌, List, length, get_or, Bool, true, false, not, Option, Some, None, nat_cmp, refl, sym, ap, subst, ◌∙◌, arith, inl, inr}
+use Rattle.std.proofs.Common.{◌≡◌, ◌≢◌, ℕ, ◌+◌, ◌-◌, ◌*◌, ◌/◌, ◌%◌, ◌^◌, ◌<◌, ◌≤◌, List, get_or, Bool, true, false, not, Option, Some, None, nat_cmp, refl, sym, ap, subst, ◌∙◌, arith, inl, inr}
 use Rattle.std.specs.Int.{bit_at, bit_not}
 use Rattle.std.specs.List.{list_any}
 use Rattle.std.specs.Option.{is_none, is_some}
 use Rattle.std.proofs.lemmas.Bool.{cases_lt}
 use Rattle.std.proofs.lemmas.Nat.Bits.{bit_at_not}
 use Rattle.model.specs.FiniteMap.{FinMap, get}
-use Rattle.fdtable.specs.Pages.{AreMarked, HasRoom, PageContent, is_full, no_page}
+use Rattle.fdtable.specs.Pages.{AreMarked, HasRoom, PageContent, is_full}
 use Rattle.fdtable.specs.Lowest.{IsFree, IsOpenFrom}
 use Rattle.fdtable.specs.Patches.{Given, IsLaid, or_before}
 use Rattle.fdtable.specs.Words.{IsLowestClear, as_bit, bit_in}
 use Rattle.fdtable.proofs.Laws.{none_unless}
 use Rattle.fdtable.proofs.Bits.{AreSet, IsFound, Shows, found_next}
-use Rattle.fdtable.proofs.Paged.{any_free, long_at, one_bit, page_in, paged, slot_in, table_of, word_full}
+use Rattle.fdtable.proofs.Paged.{any_free, long_at, one_bit, page_in, paged, table_of, word_full}
 use mir.Syntax.{w64}
 
 -- a bit for each place that has something, and for each that has not
@@ -96,6 +96,14 @@ module _ (pages : List PageContent) (bits : List ℕ) (marked : AreMarked pages 
   pub found_behind : (b place : ℕ) → IsLowestClear word (Some b) → place ≡ index * 64 + b → IsFound (taken (get (table_of pages))) first place
   found_behind b place lowest is = found_next (taken (get (table_of pages))) first index word shows all_set b place (omega (arith, behind)) lowest is
 
+-- the same of any table that these pages give
+pub seen_behind : (pages : List PageContent) (bits : List ℕ) → AreMarked pages bits → (table : FinMap nat_cmp ℕ) → table_of pages ≡ table → (first index word : ℕ) → AreSet (taken (get table)) first (64 * (first / 64 + 1))
+    → ((i : ℕ) → first / 64 + 1 ≤ i → i < index → bit_in bits i ≡ 1) → first / 64 + 1 ≤ index → Shows (taken (get table)) index word → (b place : ℕ) → IsLowestClear word (Some b) → place ≡ index * 64 + b → IsFound (taken (get table)) first place
+seen_behind pages bits marked table is first index word so_far set behind shows b place lowest at =
+    subst (λ (m : FinMap nat_cmp ℕ). IsFound (taken (get m)) first place) is
+    (found_behind pages bits marked first index word (subst (λ (m : FinMap nat_cmp ℕ). AreSet (taken (get m)) first (64 * (first / 64 + 1))) (sym is) so_far) set behind
+    (subst (λ (m : FinMap nat_cmp ℕ). Shows (taken (get m)) index word) (sym is) shows) b place lowest at)
+
 -- and a page with a free one has it
 pub not_all : (pages : List PageContent) (bits : List ℕ) (index word : ℕ) → AreMarked pages bits → bit_in bits index ≡ 0 → ((i : ℕ) → i < 64 → bit_at word i ≡ as_bit (is_some (get_or (page_in pages index).slots i None))) → IsLowestClear word None → ⊥
 not_all pages bits index word marked clear shows none = word_full (page_in pages index) word (long_at pages marked.long index) shows (sym (marked.full index) ∙ clear) none
@@ -105,9 +113,9 @@ pub room_next : (table : FinMap nat_cmp ℕ) (room more : List Bool) (from f : �
 room_next table room more from f so_far found here kept g low some = elim (cases_lt g from) [
   | inl before ↦ kept g (so_far g before some)
   | inr high ↦ elim (cases_lt g f) [
-      | inl between ↦ absurd (some (found.2 g high between))
-      | inr last ↦ (let same : f ≡ g = omega (arith, low, last) in subst (HasRoom more) same here)
-    ]
+    | inl between ↦ absurd (some (found.2 g high between))
+    | inr last ↦ (let same : f ≡ g = omega (arith, low, last) in subst (HasRoom more) same here)
+  ]
 ]
 
 -- and for all of it

@@ -158,8 +158,9 @@ impl Pages {
         ensures rooms { self.new.rooms ≡ self.old.rooms }
     {
         let index = fd.0 as usize / PAGE_LEN;
-        let former = self.each[index].put(fd.0 as usize % PAGE_LEN, given);
-        let is_full = lowest_clear(self.each[index].word()).is_none();
+        let stored = &mut self.each[index];
+        let former = stored.put(fd.0 as usize % PAGE_LEN, given);
+        let is_full = lowest_clear(stored.word()).is_none();
         mark(self.full.as_mut_slice(), index, is_full);
         former
     }

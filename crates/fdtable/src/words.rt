@@ -1,5 +1,5 @@
 // Bits in a row of words, 64 to a word; behind the last word they are 0.
-ghost use Rattle.std.specs.Prelude.{◌≡◌, ◌≢◌, ◌+◌, ◌*◌, ◌/◌, ◌<◌, ◌≤◌, ℕ, get_or, length, max};
+ghost use Rattle.std.specs.Prelude.{◌≡◌, ◌≢◌, ◌+◌, ◌*◌, ◌/◌, ◌<◌, ◌≤◌, ◌++◌, ℕ, drop, get_or, length, max};
 ghost use Rattle.std.specs.Prelude.{OnOk};
 ghost use Rattle.std.specs.Int.{bit_at};
 ghost use Rattle.fdtable.specs.Words.{IsLowestClear, as_bit, bit_in, most_words};
@@ -93,10 +93,17 @@ pub(crate) fn join(words: &mut Vec<u64, Heap>, mut other: Vec<u64, Heap>)
         ≡ max (length words.old.items) (length other.entry.items) }
 {
     if words.len() < other.len() {
-        let len = words.len();
-        other.as_mut_slice()[..len].copy_from_slice(words.as_slice());
+        write_front(other.as_mut_slice(), words.as_slice());
         mem::swap(words, &mut other);
     }
+}
+
+// Words are written over the first of a row.
+fn write_front(row: &mut [u64], words: &[u64])
+    requires { length words.now ≤ length row.old }
+    ensures { row.new ≡ words.now ++ drop (length words.now) row.old }
+{
+    row[..words.len()].copy_from_slice(words);
 }
 
 /// The lowest bit from this one on that is 0. It looks at one word after the other.

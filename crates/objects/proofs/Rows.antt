@@ -25,7 +25,7 @@ goes_on_with true bytes block e = zero_by (is_hole bytes block) e
 goes_on_with false bytes block e = ap not e
 
 pub ends_with : (holes : Bool) (bytes : List ℕ) (block : ℕ) → ends_row holes (is_hole bytes block) ≡ true → is_alike holes bytes block ≡ false
-ends_with true bytes block e = e
+ends_with true bytes block e = other_by (is_hole bytes block) e
 ends_with false bytes block e = ap not e
 
 -- a block of a file is one of a piece

@@ -8,18 +8,18 @@
 
 mod asking;
 mod change;
-mod exchange;
 mod fixed;
 mod paths;
 mod rights;
 mod stats;
 mod steps;
+mod swaps;
 
 pub use asking::size;
 pub use change::{Change, Edits, changed, changed_by, unchanged};
-pub use exchange::exchange;
 pub use fixed::{mknod, readlink, symlink};
 pub use paths::{cut_to, link, list, mkdir, rename, rmdir, truncate, unlink};
 pub use rights::{chmod, chown, set_owner, set_permissions};
 pub use stats::{lstat, stat, status};
 pub use steps::{must_not_be_directory, must_not_be_special, parsed, refuse_if};
+pub use swaps::exchange;

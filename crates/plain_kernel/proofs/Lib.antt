@@ -8,6 +8,7 @@ mod Keyed
 mod Linked
 mod Opened
 mod LowestFree
+mod Rising
 mod Holding
 mod Slots
 mod Setting

@@ -1,5 +1,5 @@
 -- The lowest descriptor that is not open, where it is below the limit, is the first of those that are free.
-use Rattle.std.proofs.Common.{◌≡◌, ◌≢◌, ℕ, ◌<◌, ◌≤◌, nat_lt, true, false, Option, Some, None, refl, sym, ap, subst, arith, nat_tests}
+use Rattle.std.proofs.Common.{◌≡◌, ◌≢◌, ℕ, ◌<◌, ◌≤◌, true, false, Option, Some, None, refl, sym, ap, subst, arith}
 use Rattle.std.specs.Option.{is_some}
 use Rattle.model.specs.FiniteMap.{get}
 use Rattle.model.specs.State.{Kernel}
@@ -13,14 +13,12 @@ there None some = absurd (some refl)
 
 module _ (k : Kernel) (pid first free limit : ℕ) (is : limit ≡ limit_of k pid) where
   pub first_found : first ≤ free → get (process_of k pid).table free ≡ None → ((f : ℕ) → first ≤ f → f < free → get (process_of k pid).table f ≢ None)
-      → nat_lt free limit ≡ true → Some free ≡ first_free k pid first
+      → free < limit → Some free ≡ first_free k pid first
   first_found from none taken below =
-      let low : free < limit = grind (arith, nat_tests) in
-      sym (lowest_is_first k pid first free from (subst (λ n. free < n) is low) (ap is_some none) (λ g high under. there (get (process_of k pid).table g) (taken g high under)))
+      sym (lowest_is_first k pid first free from (subst (λ n. free < n) is below) (ap is_some none) (λ g high under. there (get (process_of k pid).table g) (taken g high under)))
 
-  pub none_found : ((f : ℕ) → first ≤ f → f < free → get (process_of k pid).table f ≢ None) → nat_lt free limit ≡ false → None ≡ first_free k pid first
+  pub none_found : ((f : ℕ) → first ≤ f → f < free → get (process_of k pid).table f ≢ None) → limit ≤ free → None ≡ first_free k pid first
   none_found taken past =
-      let high : limit ≤ free = grind (arith, nat_tests) in
       sym (all_are_open k pid first (λ g from low.
       let under : g < limit = subst (λ n. g < n) (sym is) low in
-      there (get (process_of k pid).table g) (taken g from (omega (arith, under, high)))))
+      there (get (process_of k pid).table g) (taken g from (omega (arith, under, past)))))

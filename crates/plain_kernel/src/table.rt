@@ -1,8 +1,8 @@
 // A map from numbers to values: a vector in the order of the numbers.
-ghost use Rattle.std.specs.Prelude.{◌≡◌, ◌≢◌, ◌<◌, ◌≤◌, ℕ, None, IsTrue, MatchResult, IfOk, OnErr, OnOk, option_copied};
+ghost use Rattle.std.specs.Prelude.{◌≡◌, ◌≢◌, ◌<◌, ◌≤◌, ℕ, None, IsTrue, MatchResult, length, IfOk, OnErr, OnOk, option_copied};
 ghost use Rattle.std.specs.Ordering.{nat_cmp};
 ghost use Rattle.model.specs.FiniteMap as map;
-ghost use Rattle.plain_kernel.specs.Indices.{IsIndexOf, IsIndexFor};
+ghost use Rattle.plain_kernel.specs.Indices.{IsIndexOf, IsIndexFor, rank};
 
 use heap::Heap;
 use ids::Num;
@@ -102,15 +102,13 @@ impl<T: Drop> Table<T> {
     {
         let first = first as usize;
         let slots = self.slots.as_slice();
-        let start = match index_of(slots, Num(first)) {
-            Ok(index) => index,
-            Err(index) => index,
-        };
+        let start = place_of(slots, Num(first));
         let mut low = start;
         let mut high = slots.len();
         while low < high {
             let middle = low + (high - low) / 2;
-            if slots[middle].0.0 - first == middle - start {
+            let num = slots[middle].0;
+            if num.0 - first == middle - start {
                 low = middle + 1;
             } else {
                 high = middle;
@@ -135,6 +133,18 @@ impl Table<Num> {
         Ok(Table {
             slots: Vec::from_slice(heap, self.slots.as_slice())?,
         })
+    }
+}
+
+// How many numbers are lower.
+fn place_of<T>(slots: &[(Num, T)], num: Num) -> usize
+    requires { IsTrue (map.is_sorted nat_cmp slots.now) }
+    ensures value { result ≡ rank nat_cmp num slots.now }
+    ensures within { result ≤ length slots.now }
+{
+    match index_of(slots, num) {
+        Ok(index) => index,
+        Err(index) => index,
     }
 }
 

@@ -12,8 +12,8 @@ returns-in_err-must_be_below g c = goes _ c.in_ok-size.ensures (stops _ c.from_r
 pub returns-in_err-passed : goal.returns-in_err-passed
 returns-in_err-passed g c = goes _ c.in_ok-size.ensures (goes _ (c.in_ok-must_be_below.ensures.value _ _) (stops _ c.from_residual-in_err-passed.ensures.1 (via (λ i. ask (Pass_blocks (not c.args.holes) c.args.file (sym c.row.ensures.first i) (sym c.row.ensures.count i))) c.in_err-passed.ensures.value)))
 
-pub returns-in_err-refuse_if : goal.returns-in_err-refuse_if
-returns-in_err-refuse_if g c = goes _ c.in_ok-size.ensures (goes _ (c.in_ok-must_be_below.ensures.value _ _) (goes _ (via (λ i. ask (Pass_blocks (not c.args.holes) c.args.file (sym c.row.ensures.first i) (sym c.row.ensures.count i))) c.in_ok-passed.ensures.value) (stops _ c.from_residual-in_err-refuse_if.ensures.1 (via (ap (λ place. refuse_if (not c.args.holes && nat_le c.in_ok-size.size place) ENXIO) (sym c.behind_blocks.ensures)) (c.in_err-refuse_if.ensures _ _)))))
+pub returns-in_err-must_not_lack_data : goal.returns-in_err-must_not_lack_data
+returns-in_err-must_not_lack_data g c = goes _ c.in_ok-size.ensures (goes _ (c.in_ok-must_be_below.ensures.value _ _) (goes _ (via (λ i. ask (Pass_blocks (not c.args.holes) c.args.file (sym c.row.ensures.first i) (sym c.row.ensures.count i))) c.in_ok-passed.ensures.value) (stops _ c.from_residual-in_err-must_not_lack_data.ensures.1 (via (ap (λ place. refuse_if (not c.args.holes && nat_le c.in_ok-size.size place) ENXIO) (sym c.behind_blocks-place.ensures)) (c.in_err-must_not_lack_data.ensures _ _)))))
 
 pub returns : goal.returns
-returns g c = goes _ c.in_ok-size.ensures (goes _ (c.in_ok-must_be_below.ensures.value _ _) (goes _ (via (λ i. ask (Pass_blocks (not c.args.holes) c.args.file (sym c.row.ensures.first i) (sym c.row.ensures.count i))) c.in_ok-passed.ensures.value) (goes _ (via (ap (λ place. refuse_if (not c.args.holes && nat_le c.in_ok-size.size place) ENXIO) (sym c.behind_blocks.ensures)) (c.in_ok-refuse_if.ensures _ _)) (via (ap Give (ap (min c.in_ok-size.size) (sym c.behind_blocks.ensures) ∙ sym c.within.ensures)) gives))))
+returns g c = goes _ c.in_ok-size.ensures (goes _ (c.in_ok-must_be_below.ensures.value _ _) (goes _ (via (λ i. ask (Pass_blocks (not c.args.holes) c.args.file (sym c.row.ensures.first i) (sym c.row.ensures.count i))) c.in_ok-passed.ensures.value) (goes _ (via (ap (λ place. refuse_if (not c.args.holes && nat_le c.in_ok-size.size place) ENXIO) (sym c.behind_blocks-place.ensures)) (c.in_ok-must_not_lack_data.ensures _ _)) (via (ap Give (ap (min c.in_ok-size.size) (sym c.behind_blocks-place.ensures) ∙ sym c.within.ensures)) gives))))

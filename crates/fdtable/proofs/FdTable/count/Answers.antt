@@ -7,8 +7,9 @@ use Rattle.fdtable.proofs.FdTable.count.Goals as goal
 pub loop-number-init : goal.loop-number-init
 loop-number-init c = (
   omega arith,
-  (let all : among c.args.description (open_from c.args.self.now 0 c.end-number-end.result) ≡ among c.args.description (map.entries c.args.self.now) =
-      ap (among c.args.description) (all_open c.args.self.now c.end-number-end.result (none_behind c.args.self.now c.end-number-end.result c.end-number-end.ensures.open)) in omega arith),
+  (let whole : c.end-number-end.result - 0 ≡ c.end-number-end.result = omega arith in
+      let all : among c.args.description (open_from c.args.self.now 0 (c.end-number-end.result - 0)) ≡ among c.args.description (map.entries c.args.self.now) =
+      ap (λ n. among c.args.description (open_from c.args.self.now 0 n)) whole ∙ ap (among c.args.description) (all_open c.args.self.now c.end-number-end.result (none_behind c.args.self.now c.end-number-end.result c.end-number-end.ensures.open)) in omega (arith, all)),
 )
 
 pub loop-number-preserved : goal.loop-number-preserved

@@ -6,7 +6,9 @@ use Rattle.fdtable.proofs.FdTable.entries.Goals.{in-Some+in_ok-push, in_default}
 
 pub loop-number-init : goal.loop-number-init
 loop-number-init c =
-    ap (λ es. es ++ open_from c.args.self.now 0 c.end-number-end.result) c.new-entries.ensures.items
+    let whole : c.end-number-end.result - 0 ≡ c.end-number-end.result = omega arith in
+    ap (λ es. es ++ open_from c.args.self.now 0 (c.end-number-end.result - 0)) c.new-entries.ensures.items
+    ∙ ap (open_from c.args.self.now 0) whole
     ∙ all_open c.args.self.now c.end-number-end.result (none_behind c.args.self.now c.end-number-end.result c.end-number-end.ensures.open)
 
 pub loop-number-preserved : goal.loop-number-preserved

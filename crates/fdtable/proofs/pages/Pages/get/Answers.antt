@@ -1,6 +1,7 @@
-use Rattle.std.proofs.Common.{◌/◌, ◌%◌, get_or, length, sym, ap, ◌∙◌, arith}
+use Rattle.std.proofs.Common.{◌≡◌, ◌/◌, ◌%◌, true, false, get_or, length, sym, ap, ◌∙◌, arith}
+use Rattle.std.specs.Option.{is_some}
 use Rattle.fdtable.specs.Pages.{no_page}
-use Rattle.fdtable.proofs.Paged.{seen_at, seen_past}
+use Rattle.fdtable.proofs.Paged.{seen_at, seen_past, seen_room}
 use Rattle.fdtable.proofs.pages.Pages.get.Goals as goal
 
 pub returns-in-Some-clause-value : goal.returns-in-Some-clause-value
@@ -12,3 +13,8 @@ returns-in-Some-clause-value c =
 pub returns-in-None-clause-value : goal.returns-in-None-clause-value
 returns-in-None-clause-value c =
     seen_past c.self.inside.each.items c.self.inside.full.items c.self.invariant c.args.self.now c.self.view_is c.args.fd (c.fd.inside.0 / 64) (ap (λ f. f / 64) (sym c.fd.view_is)) (omega (arith, c.in-None.ensures.lookup.3, ap length c.deref.ensures.value))
+
+pub returns-in-Some-clause-room : goal.returns-in-Some-clause-room
+returns-in-Some-clause-room c some =
+    seen_room c.self.inside.each.items c.self.inside.full.items c.self.invariant c.args.self.now c.self.view_is c.args.fd
+    (λ none. (let no : false ≡ true = sym (ap is_some (returns-in-Some-clause-value c ∙ none)) ∙ some in cc))

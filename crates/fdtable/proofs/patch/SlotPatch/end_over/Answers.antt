@@ -1,4 +1,4 @@
-use Rattle.std.proofs.Common.{◌<◌, ℕ, nat_cmp, sym, ap₂, ◌∙◌, arith, inl, inr}
+use Rattle.std.proofs.Common.{ℕ, nat_cmp, sym, ap₂, ◌∙◌, arith, inl, inr}
 use Rattle.model.specs.FiniteMap.{FinMap, get}
 use Rattle.fdtable.specs.Patches.{Given, or_before}
 use Rattle.fdtable.proofs.Patched.{laid_either}

@@ -7,7 +7,9 @@ use Rattle.fdtable.proofs.patch.SlotPatch.entries_over.Goals.{in-Some+in_ok-push
 
 pub loop-number-init : goal.loop-number-init
 loop-number-init c laid is =
-    ap (λ es. es ++ open_from laid 0 c.end_over-number-end.result) c.new-entries.ensures.items
+    let whole : c.end_over-number-end.result - 0 ≡ c.end_over-number-end.result = omega arith in
+    ap (λ es. es ++ open_from laid 0 (c.end_over-number-end.result - 0)) c.new-entries.ensures.items
+    ∙ ap (open_from laid 0) whole
     ∙ all_laid c.args.self.now c.args.table.now laid c.end_over-number-end.result is c.end_over-number-end.ensures
 
 pub loop-number-preserved : goal.loop-number-preserved

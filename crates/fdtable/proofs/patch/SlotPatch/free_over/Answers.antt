@@ -2,7 +2,7 @@ use Rattle.std.proofs.Common.{◌≡◌, ◌+◌, ◌*◌, ◌/◌, ℕ, None, n
 use Rattle.model.specs.FiniteMap.{FinMap, get}
 use Rattle.fdtable.specs.Patches.{or_before}
 use Rattle.fdtable.proofs.Laws.{none_unless}
-use Rattle.fdtable.proofs.Bits.{IsFound, found_first, found_next, none_first, none_next}
+use Rattle.fdtable.proofs.Bits.{found_first, found_next, none_first, none_next}
 use Rattle.fdtable.proofs.Searched.{below_taken, laid_free, taken, taken_below}
 use Rattle.fdtable.proofs.patch.SlotPatch.free_over.Goals as goal
 
@@ -39,9 +39,8 @@ returns c laid is =
     let place : ℕ = c.max.result * 64 in
     let unnoted : get c.args.self.now place ≡ None = none_unless (get c.args.self.now place) (λ some. (let low = c.pages.ensures.noted place some in omega (arith, low, c.max.ensures, c.max-pages.ensures))) in
     let closed : get c.args.table.now place ≡ None = none_unless (get c.args.table.now place) (λ some. (
-      let low = c.end.ensures.open place (λ none. some (ap (λ (m : FinMap nat_cmp ℕ). get m place) (sym c.table.view_is) ∙ none)) in
-      omega (arith, low, c.end.ensures.whole, c.max.ensures, c.max-pages.ensures))) in
-    (
+    let low = c.end.ensures.open place (λ none. some (ap (λ (m : FinMap nat_cmp ℕ). get m place) (sym c.table.view_is) ∙ none)) in
+    omega (arith, low, c.end.ensures.whole, c.max.ensures, c.max-pages.ensures))) in (
       omega (arith, c.max.ensures),
       is place ∙ ap₂ or_before unnoted closed,
       λ g from low none. c.loop-index.invariant g from (omega (arith, low, c.max.ensures)) (sym (is g) ∙ none),

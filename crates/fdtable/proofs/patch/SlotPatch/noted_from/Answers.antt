@@ -2,7 +2,7 @@ use Rattle.std.proofs.Common.{◌+◌, ◌*◌, ◌/◌, ◌<◌, ◌^◌, ℕ, 
 use Rattle.std.specs.Int.{bit_not}
 use Rattle.model.specs.FiniteMap.{get}
 use Rattle.ids.specs.declared.limits.TheConstants.{DESCRIPTORS}
-use Rattle.fdtable.proofs.Bits.{AreSet, IsFound, found_first, found_next, none_first, none_next}
+use Rattle.fdtable.proofs.Bits.{IsFound, found_first, found_next, none_first, none_next}
 use Rattle.fdtable.proofs.Searched.{below_untaken, none_behind, shows_untaken, taken_found, untaken, untaken_below}
 use Rattle.fdtable.proofs.patch.SlotPatch.noted_from.Goals as goal
 use Rattle.fdtable.proofs.patch.SlotPatch.noted_from.Goals.{In-Some, In-Some-lowest_clear}

@@ -5,8 +5,8 @@ use Rattle.ids.specs.declared.limits.TheConstants.{DESCRIPTORS}
 use Rattle.fdtable.specs.Pages.{HasRoom}
 use Rattle.fdtable.proofs.room.SlotRoom.like.Given as goal
 
-abbrev pub invariant-loop-from : goal.invariant-loop-from
-invariant-loop-from l = (f : ℕ) → f < l.from → get l.table f ≢ None → HasRoom l.room f
+abbrev pub invariant-loop-fd : goal.invariant-loop-fd
+invariant-loop-fd l = (f : ℕ) → f < l.from → get l.table f ≢ None → HasRoom l.room f
 
-abbrev pub decreases-loop-from : goal.decreases-loop-from
-decreases-loop-from l = DESCRIPTORS - l.from
+abbrev pub decreases-loop-fd : goal.decreases-loop-fd
+decreases-loop-fd l = DESCRIPTORS - l.from

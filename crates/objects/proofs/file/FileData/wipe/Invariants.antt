@@ -1,4 +1,4 @@
-use Rattle.std.proofs.Common.{◌≡◌, ℕ, ◌*◌, ◌≤◌, replicate}
+use Rattle.std.proofs.Common.{◌≡◌, ◌*◌, replicate}
 use Rattle.objects.specs.Pieces.{EndsBy}
 use Rattle.objects.specs.declared.group.TheConstants.{PIECE_LEN}
 use Rattle.objects.proofs.Writes.{WrittenBelow}

@@ -4,4 +4,4 @@ use Rattle.model.specs.State.{Inode, target_of_inode}
 use Rattle.plain_kernel.proofs.plain.PlainKernelLook.target_len.Goals as goal
 
 pub returns : goal.returns
-returns c = c.len.ensures ∙ ap length (c.target_in.ensures.value ∙ ap (λ (o : Option Inode). target_of_inode o) (c.get.ensures ∙ ap (λ k. get k.inodes c.args.link) c.self.view_is))
+returns c = ap length (c.target_in.ensures.value ∙ ap (λ (o : Option Inode). target_of_inode o) (c.get.ensures ∙ ap (λ k. get k.inodes c.args.link) c.self.view_is))

@@ -1,5 +1,5 @@
 use Rattle.walk.proofs.Laws.{goes, stops}
-use Rattle.path_calls.proofs.exchange.exchange.Goals as goal
+use Rattle.path_calls.proofs.swaps.exchange.Goals as goal
 
 pub returns-in_err-from : goal.returns-in_err-from
 returns-in_err-from g c pid = stops _ c.from_residual.ensures.1 (c.in_err-from.ensures _)

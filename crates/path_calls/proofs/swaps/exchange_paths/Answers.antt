@@ -4,7 +4,7 @@ use Rattle.model.specs.Paths.{is_below}
 use Rattle.model.specs.Walks.{Last, Place, is_directory}
 use Rattle.model.specs.Plans.{swapped}
 use Rattle.walk.proofs.Laws.{goes, stops, via}
-use Rattle.path_calls.proofs.exchange.exchange_paths.Goals as goal
+use Rattle.path_calls.proofs.swaps.exchange_paths.Goals as goal
 
 pub returns-in_err-must_not_be_root : goal.returns-in_err-must_not_be_root
 returns-in_err-must_not_be_root g c = stops _ c.from_residual.ensures.1 (c.in_err-must_not_be_root.ensures _ _)
