@@ -185,3 +185,16 @@ two_numbers file bytes m v held whole first second =
     ∙ ap (take 16) (cut_8 bytes 0 ∙ ap₂ (λ (x y : List ℕ). x ++ y) first (cut_8 bytes 8 ∙ ap (λ (x : List ℕ). x ++ drop 16 bytes) second) ∙ sym (append_assoc (number m) (number v) (drop 16 bytes)))
     ∙ take_at (number m ++ number v) (drop 16 bytes) 16 long in
     held_part file (number m ++ number v) 0 16 (omega (arith, held.within)) long (part_of_held file bytes 0 0 16 held (omega arith) ∙ both)
+
+-- and back
+pub numbers_in_front : (file bytes : List ℕ) (m v : ℕ) → Holds file 0 (number m ++ number v) → Holds file 0 bytes → length bytes ≡ 32 → (part bytes 0 8 ≡ number m) × (part bytes 8 8 ≡ number v)
+numbers_in_front file bytes m v front held whole =
+    let both = number m ++ number v in
+    let long : length both ≡ 16 = omega (arith, length-append (number m) (number v), length-number m, length-number v) in
+    let second : part both 8 8 ≡ number v = part_is both 8 8 ∙ ap (take 8) (drop_at (number m) (number v) 8 (length-number m)) ∙ take_all 8 (number v) (omega (arith, length-number v)) in (
+      sym (part_of_held file bytes 0 0 8 held (omega arith))
+          ∙ part_of_held file both 0 0 8 front (omega (arith, long))
+          ∙ part_is both 0 8
+          ∙ take_at (number m) (number v) 8 (length-number m),
+      sym (part_of_held file bytes 0 8 8 held (omega arith)) ∙ part_of_held file both 0 8 8 front (omega (arith, long)) ∙ second,
+    )

@@ -25,8 +25,10 @@ pub record HasHeader (key : ℕ) (file : List ℕ) : Type 0 where
   pub bytes : Holds file 0 (header key)
   pub key_fits : key < 2 ^ 64
 
--- the file names this version, which is another one
+-- the file has room for a header, and names this version, which is another one
 pub record HasOtherVersion (other : ℕ) (file : List ℕ) : Type 0 where
+  pub long : 32 ≤ length file
+  pub fits : other < 2 ^ 64
   pub bytes : Holds file 0 (number magic ++ number other)
   pub differs : other ≢ version
 

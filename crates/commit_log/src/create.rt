@@ -3,7 +3,7 @@ ghost use Rattle.std.specs.Prelude.{◌≡◌, ◌≤◌, ◌<◌, max, ℕ, Lis
 ghost use Rattle.sqlite_disk.specs.Disk.{Only};
 ghost use Rattle.commit_log.specs.Create.{CreateCause, Grows};
 ghost use Rattle.commit_log.specs.File.{HasHeader};
-ghost use Rattle.commit_log.specs.Log.{disk_of, Stands};
+ghost use Rattle.commit_log.specs.Log.{disk_of, key_of, Stands};
 ghost use Rattle.commit_log.specs.Reads.{IsClean};
 
 use crate::error::{Error, Refused};
@@ -18,16 +18,17 @@ use std::alloc::Global;
 fn write_header<D: Disk>(alloc: Global, disk: &mut D) -> Result<u64, Error>
     requires { IsTrue (D.Disk.is_usable disk.old) }
     ensures made { IfOk result (λ key. IsClean D.Disk disk.new → HasHeader key (D.Disk.seen disk.new) × (length (D.Disk.seen disk.new) ≡ 32)) }
+    ensures key { IfOk result (λ key. key ≡ D.Disk.key_of disk.old) }
     ensures durable { IfOk result (λ key. Only (D.Disk.seen disk.new) (D.Disk.may_leave disk.new)) }
     ensures usable { IfOk result (λ key. IsTrue (D.Disk.is_usable disk.new)) }
     ensures crash { Grows (D.Disk.may_leave disk.old) (D.Disk.may_leave disk.new) }
     ensures cause { MatchResult result (λ _. D.Disk.faults disk.new ≡ D.Disk.faults disk.old)
         (λ error. IsClean D.Disk disk.new → CreateCause (D.Disk.seen disk.old) (D.Disk.faults disk.old) (D.Disk.faults disk.new) error) }
 {
+    let key = disk.key();
     if size_of(disk)? != 0 {
         return Err(Error::Taken);
     }
-    let key = disk.key();
     let header = header_of(alloc, key)?;
     write_bytes(disk, 0, &header)?;
     sync(disk)?;
@@ -42,6 +43,7 @@ impl<D: Disk> Log<D> {
     pub fn create(alloc: Global, disk: D) -> Result<Log<D>, Refused<D>>
         requires { IsTrue (D.Disk.is_usable disk) }
         ensures made { IfOk result (λ log. IsClean D.Disk (disk_of log) → Stands log [] []) }
+        ensures key { IfOk result (λ log. key_of log ≡ D.Disk.key_of disk) }
         ensures crash { IfErr result (λ refused. Grows (D.Disk.may_leave disk) (D.Disk.may_leave refused.disk)) }
         ensures cause { MatchResult result (λ log. D.Disk.faults (disk_of log) ≡ D.Disk.faults disk)
             (λ refused. IsClean D.Disk refused.disk → CreateCause (D.Disk.seen disk) (D.Disk.faults disk) (D.Disk.faults refused.disk) refused.error) }

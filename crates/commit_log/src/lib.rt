@@ -10,6 +10,8 @@ mod number;
 mod reader;
 mod reading;
 mod recovery;
+#[cfg(test)]
+mod tests;
 mod writing;
 
 pub use error::{Error, Refused};

@@ -1,7 +1,7 @@
 //! A log that records are appended to.
 ghost use Rattle.std.specs.Prelude.{◌≡◌, ◌+◌, ◌^◌, ◌≤◌, ◌++◌, [], ◌∷◌, ℕ, List, Some, None, IfOk, OnOk, IsNone, IsTrue};
 ghost use Rattle.commit_log.specs.File.{Reads};
-ghost use Rattle.commit_log.specs.Frame.{frame_length};
+ghost use Rattle.commit_log.specs.Frame.{HasFrame, frame_length};
 
 use crate::error::Error;
 use crate::frame::frame_of;
@@ -36,6 +36,8 @@ impl<D: Disk> Log<D> {
             → Stands self.new kept (appended ++ payload.now ∷ [])) }
         ensures crash { (kept appended : List (List ℕ)) → Stands self.old kept appended
             → CrashLeaves self.new kept (appended ++ payload.now ∷ []) }
+        ensures says { OnOk result ((kept appended : List (List ℕ)) → Stands self.old kept appended
+            → HasFrame (key_of self.old) (D.Disk.seen (disk_of self.new)) (end_of self.old) (kept_of self.old) payload.now) }
         ensures cause { FailsFor result self.old self.new (2 ^ 64 ≤ end_of self.old + frame_length payload.now) }
         ensures place { IfOk result (λ place. place ≡ end_of self.old) }
         ensures end { OnOk result (end_of self.new ≡ end_of self.old + frame_length payload.now) }

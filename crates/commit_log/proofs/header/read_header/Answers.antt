@@ -10,8 +10,10 @@ returns-in_err-size-clause-cause g c =
     rw (p.1, p.2) (λ clean. no_log_by_refusal _ _ _ _ c.in_err-size.ensures.cause)
 
 pub returns-then-size-lt-HEADER-clause-cause : goal.returns-then-size-lt-HEADER-clause-cause
-returns-then-size-lt-HEADER-clause-cause g c clean key has =
-    omega (arith, has.bytes.within, length-header key, c.in_ok-size.ensures.size clean)
+returns-then-size-lt-HEADER-clause-cause g c clean = (
+  λ key has. omega (arith, has.bytes.within, length-header key, c.in_ok-size.ensures.size clean),
+  λ v other. omega (arith, other.long, c.in_ok-size.ensures.size clean),
+)
 
 pub returns-in_err-read_bytes-clause-cause : goal.returns-in_err-read_bytes-clause-cause
 returns-in_err-read_bytes-clause-cause g c =

@@ -1,4 +1,5 @@
 use Rattle.std.proofs.Common.{◌≡◌, ℕ, ◌+◌, ◌^◌, ◌<◌, ◌++◌, [], ◌∷◌, length, subst, ◌∙◌, ap, arith, rules}
+use Rattle.sqlite_disk.specs.Disk.{Holds}
 use Rattle.commit_log.specs.Frame.{frame_length}
 use Rattle.commit_log.specs.Kept.{BeginsWith}
 use Rattle.commit_log.specs.File.{IsBlankFrom}
@@ -51,4 +52,16 @@ returns-clause-appended g c kept appended stands =
           );
       blank = subst (λ (p : ℕ). IsBlankFrom new p) behind (blank_behind old new log.end _ stands.blank c.in_default-write_at.ensures.others);
       durable = kept_through_write (g.D.Disk.may_leave log.disk) (g.D.Disk.may_leave c.write_at.new.self) log.key kept log.kept log.end _ stands.order stands.durable c.in_default-write_at.ensures.crash;
+    }
+
+pub returns-clause-says : goal.returns-clause-says
+returns-clause-says g c kept appended stands =
+    let log = c.args.self.now in
+    let deref : c.deref.result.now ≡ c.in_ok-frame.frame.items = c.deref.ensures.value in
+    let long : length c.deref.result.now ≡ frame_length c.args.payload.now = ap length deref ∙ c.in_ok-frame.ensures.length in
+    let told : c.len-length.result ≡ length c.in_ok-frame.frame.items = search rules in
+    record {
+      bytes = subst (Holds (g.D.Disk.seen c.write_at.new.self) log.end) (deref ∙ c.in_ok-frame.ensures.bytes) (c.in_default-write_at.ensures.written (omega (arith, long)));
+      kept_fits = omega (arith, stands.order, stands.fits);
+      length_fits = omega (arith, told, c.in_ok-frame.ensures.length);
     }
