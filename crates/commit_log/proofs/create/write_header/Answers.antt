@@ -1,5 +1,8 @@
 use Rattle.std.proofs.Common.{◌≡◌, length, ◌∙◌, ap, subst, arith}
 use Rattle.sqlite_disk.specs.Disk.{Holds}
+use Rattle.std.proofs.lemmas.Result.{err_from_is_err_and}
+use Rattle.commit_log.specs.declared.error.Error.TheVariants.{Taken}
+use Rattle.commit_log.specs.Reads.{IsRefusal}
 use Rattle.commit_log.specs.File.{header}
 use Rattle.commit_log.proofs.Making.{grows_written, grows_on}
 use Rattle.commit_log.proofs.Spelled.{length-header}
@@ -36,3 +39,19 @@ returns-clause-made g c clean =
       record { bytes = held; key_fits = omega arith },
       omega (arith, empty, ap length c.size_of.ensures.same.seen, torn.no_longer, held.within, ap length is, length-header c.key-key.result),
     )
+
+pub returns-clause-empty : goal.returns-clause-empty
+returns-clause-empty g c clean =
+    omega (arith, c.in_ok-size_of.ensures.size (c.write_bytes.ensures.clean (c.sync.ensures.clean clean)))
+
+pub returns-in_err-write_bytes-clause-taken : goal.returns-in_err-write_bytes-clause-taken
+returns-in_err-write_bytes-clause-taken g c taken =
+    let p = err_from_is_err_and c.from_residual-in_err-write_bytes.result c.from_residual-in_err-write_bytes.ensures.1 in
+    let is : c.in_err-write_bytes.field-0.0 ≡ Taken = cc in
+    absurd (subst (IsRefusal (g.D.Disk.faults c.size_of.new.disk) (g.D.Disk.faults c.write_bytes.new.disk)) is c.in_err-write_bytes.ensures.cause)
+
+pub returns-in_err-sync-clause-taken : goal.returns-in_err-sync-clause-taken
+returns-in_err-sync-clause-taken g c taken =
+    let p = err_from_is_err_and c.from_residual-in_err-sync.result c.from_residual-in_err-sync.ensures.1 in
+    let is : c.in_err-sync.field-0.0 ≡ Taken = cc in
+    absurd (subst (IsRefusal (g.D.Disk.faults c.write_bytes.new.disk) (g.D.Disk.faults c.sync.new.disk)) is c.in_err-sync.ensures.cause)
