@@ -1,4 +1,5 @@
-"""A digest of what the tries of a crate's edits rest on, and the proof of a crate of tests: the crate's text, and the contracts of the crates below it.
+"""A digest of what the tries of a crate's edits rest on, and the proof of a crate of tests: the crate's text, and the contracts of the crates below it. The
+record of a crate's edits has a line for each besides, so that one which is new is tried alone.
 
 Above a crate its proofs read the statements alone, so of the crates below count the definitions (specs/) and the code without the
 bodies of its functions and without comments.
@@ -143,10 +144,10 @@ def contract_of(name, known):
 
 
 def digest_of(name, known):
-    """Returns the digest of all that the tries of a crate's edits rest on; of a crate without edits, all that its proof rests on."""
+    """Returns the digest of all that the proof of a crate rests on, and with it the tries of its edits."""
     lines = lines_of_crates()
     sum = hashlib.sha256(lines[name][1].encode())
-    for file in [*files_of(name, PARTS), *edits_of(name)]:
+    for file in files_of(name, PARTS):
         sum.update(repr((str(file.relative_to(CRATES)), file.read_bytes())).encode())
     for it in below(name, lines):
         sum.update(f"{it} {contract_of(it, known)}\n".encode())
@@ -172,9 +173,25 @@ def why_anew(name, record, what, known):
     return "" if is_same else f"the crate's text, or a contract below it, is another than when {what}"
 
 
+def line_of(edit):
+    """Returns the line of a record that tells of an edit as it stands."""
+    return f"{hashlib.sha256(edit.read_bytes()).hexdigest()} {edit.name}"
+
+
+def left_of(name, known):
+    """Returns the edits of a crate that stand outside the gate and were not refused as all stands now: all, or those that are new or of another text."""
+    edits, record = edits_of(name), record_of(name)
+    if why_anew(name, record, "", known):
+        return edits
+    lines = {*record.read_text().splitlines()}
+    return [it for it in edits if line_of(it) not in lines]
+
+
 def why_to_try(name, known):
-    """Returns why a crate's edits have to be tried, or '' where they were refused as all stands now."""
-    return why_anew(name, record_of(name), "they were refused", known)
+    """Returns why edits of a crate have to be tried, or '' where all were refused as all stands now."""
+    left = left_of(name, known)
+    why = why_anew(name, record_of(name), "they were refused", known)
+    return why or (f"{len(left)} of them are new, or of another text than when they were refused" if left else "")
 
 
 def why_to_prove(name, known):
