@@ -119,7 +119,7 @@ placed_none old first second one other =
     came_then old mid (with_entry other first (map.get mid other) mid) (moved_none old one second (map.get old one) refl) (moved_none mid other first (map.get mid other) refl)
 
 leading_given : (next : ℕ) (numbers : Numbers) (entry : DirectoryEntry) (number : ℕ) (found : Option ℕ) → AreGiven next numbers → IsGiven next number → AreGiven next (leading entry number found numbers)
-leading_given next numbers entry number None h given = h
+leading_given next numbers entry number None h given e found is = h e found is
 leading_given next numbers entry number (Some former) h given e found is = elim (put_or_found entry_cmp_total entry_exact numbers entry number e found is) [
   | inl same ↦ subst (λ (k : ℕ). IsGiven next k) same.1 given
   | inr before ↦ h e found before
