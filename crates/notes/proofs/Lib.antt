@@ -11,6 +11,8 @@ mod RightsEdits
 mod EditCases
 mod EditPairs
 mod DistinctProcesses
+mod SlotRooms
+mod SlotPlaces
 mod BlockNumbers
 mod FileNotes
 mod NamesOver

@@ -141,6 +141,10 @@ pub laid_slots : (kept : Option Given) (m : Given) (stored after : FinMap nat_cm
 laid_slots kept m stored after is laid o of =
     over_is m stored after laid ∙ ap (slots_over (entries m)) (sym of) ∙ sym (ap (λ p. p.table) (new_of (entries m) o)) ∙ ap (λ k. (or_new (reslotted k o)).table) is
 
+-- the notes laid on top of a table
+pub over_laid : (m : Given) (table : FinMap nat_cmp ℕ) → IsLaid m table (slots_over (entries m) table)
+over_laid m table = map_over m table
+
 -- a descriptor of the process gives what is noted of it, or else what it gave
 pub given_slots : (kept : Option Given) (m : Given) (f : ℕ) (noted : Option (Option ℕ)) (stored : Option ℕ) → Some m ≡ kept → noted ≡ get m f → (o : Option Process) → get (or_new o).table f ≡ stored → or_before noted stored ≡ get (or_new (reslotted kept o)).table f
 given_slots kept m f noted stored is look o of =

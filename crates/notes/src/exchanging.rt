@@ -103,25 +103,28 @@ impl Inodes {
     /// nothing that shows.
     pub(crate) fn note_swapped(
         &mut self,
-        first: (Num, &Name, Num),
-        second: (Num, Name, Num),
+        first: Num,
+        first_name: &Name,
+        first_inode: Num,
+        second: Num,
+        second_name: Name,
+        second_inode: Num,
     ) -> Result<(), AllocError>
-        requires first { kept_at self.old first.0 ≢ None }
-        requires second { kept_at self.old second.0 ≢ None }
+        requires first { kept_at self.old first ≢ None }
+        requires second { kept_at self.old second ≢ None }
         ensures ok { OnOk result (AreSwapped
-            first.0 first.1.now first.2 second.0 second.1 second.2 self.old self.new) }
+            first first_name.now first_inode second second_name second_inode self.old self.new) }
         ensures err { OnErr result (SameInodes self.old self.new) }
     {
-        let (dir, name, num) = second;
-        let noted = first.1.try_clone()?;
-        let former = self.note_given(first.0, noted, num)?;
-        match self.note_name(dir, name, Some(first.2)) {
+        let noted = first_name.try_clone()?;
+        let former = self.note_given(first, noted, second_inode)?;
+        match self.note_name(second, second_name, Some(first_inode)) {
             Ok(()) => {
                 drop(former);
                 Ok(())
             }
             Err(AllocError) => {
-                self.take_back(first.0, first.1, former);
+                self.take_back(first, first_name, former);
                 Err(AllocError)
             }
         }
@@ -149,8 +152,12 @@ impl Patches {
                 second_inode,
             } => {
                 let noted = self.swap(
-                    (first, &first_name, first_inode),
-                    (second, second_name, second_inode),
+                    first,
+                    &first_name,
+                    first_inode,
+                    second,
+                    second_name,
+                    second_inode,
                 );
                 drop(first_name);
                 noted
@@ -160,15 +167,31 @@ impl Patches {
     }
 
     // Two names change places.
-    fn swap(&mut self, first: (Num, &Name, Num), second: (Num, Name, Num)) -> Result<(), AllocError>
+    fn swap(
+        &mut self,
+        first: Num,
+        first_name: &Name,
+        first_inode: Num,
+        second: Num,
+        second_name: Name,
+        second_inode: Num,
+    ) -> Result<(), AllocError>
         ensures ok { OnOk result ((chosen : List ℕ) → TakesIn chosen
-            (Swap first.0 first.1.now first.2 second.0 second.1 second.2) self.old self.new) }
+            (Swap first first_name.now first_inode second second_name second_inode)
+            self.old self.new) }
         ensures err { OnErr result (SamePatches self.old self.new) }
         ensures openings { self.new.openings ≡ self.old.openings }
         ensures slots { self.new.slots ≡ self.old.slots }
     {
-        self.inodes.make_place(first.0)?;
-        self.inodes.make_place(second.0)?;
-        self.inodes.note_swapped(first, second)
+        self.inodes.make_place(first)?;
+        self.inodes.make_place(second)?;
+        self.inodes.note_swapped(
+            first,
+            first_name,
+            first_inode,
+            second,
+            second_name,
+            second_inode,
+        )
     }
 }

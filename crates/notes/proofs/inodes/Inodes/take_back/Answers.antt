@@ -1,8 +1,15 @@
-use Rattle.std.proofs.Common.{◌≡◌, sym, subst, Some}
-use Rattle.notes.specs.Patches.{kept_at}
+use Rattle.std.proofs.Common.{◌≡◌, ℕ, ◌<◌, List, Option, ap, sym, subst, Some, ◌∙◌}
+use Rattle.notes.specs.declared.change.InodeChange.{InodeChange}
+use Rattle.notes.specs.Patches.{kept_at, net_of}
 use Rattle.notes.specs.Notes.{At, IsTakenBack}
 use Rattle.notes.proofs.InodeLemmas.{put_back, some_kept}
 use Rattle.notes.proofs.inodes.Inodes.take_back.Goals as goal
+
+pub take_back-requires : goal.take_back-requires
+take_back-requires c =
+    let was : kept_at c.self.inside.each.entries c.args.dir ≡ Some c.in-Some.change.now = sym c.in-Some.ensures.value in
+    subst (λ (o : Option InodeChange). 0 < (net_of o).promised)
+    (ap (λ (es : List (ℕ × InodeChange)). kept_at es c.args.dir) (sym c.self.view_is) ∙ was) c.requires.room
 
 pub returns : goal.returns
 returns c =

@@ -7,18 +7,24 @@ use Rattle.notes.specs.Openings.{AtOpening, AtSlots, IsOpened}
 use Rattle.notes.proofs.Outcomes.{ok_so}
 use Rattle.notes.proofs.OffsetEdits.{clearing_takes, moving_takes, opening_takes, sharing_takes}
 use Rattle.notes.proofs.patches.Patches.note_last.Goals as goal
+use Rattle.notes.proofs.patches.Patches.note_last.Goals.{in-Some-1, in-None-1}
 
 pub returns-in-SetOffset-clause-ok : goal.returns-in-SetOffset-clause-ok
 returns-in-SetOffset-clause-ok c =
     let was = c.self.inside in
     let old : Patches = record { inodes = was.inodes; rights = was.rights; openings = was.openings; slots = was.slots; unnamed_inodes = was.unnamed_inodes.items } in
     let new : Patches = record old { openings = c.move_to.new.self } in
+    let takes : TakesIn c.args.chosen.now c.args.edit.now c.args.self.now new =
     subst (λ (e : Edit). TakesIn c.args.chosen.now e c.args.self.now new) (sym c.in-SetOffset.is)
     (subst (λ (p : Patches). TakesIn c.args.chosen.now (Set_offset c.in-SetOffset.description c.in-SetOffset.offset) p new) c.self.view_is
-    (moving_takes c.args.chosen.now c.in-SetOffset.description c.in-SetOffset.offset old c.move_to.new.self c.move_to.ensures))
+    (moving_takes c.args.chosen.now c.in-SetOffset.description c.in-SetOffset.offset old c.move_to.new.self c.move_to.ensures)) in
+    elim c.match-place.branch [
+      | in-Some-1 w ↦ subst (λ (p : Patches). TakesIn c.args.chosen.now c.args.edit.now c.args.self.now p) (sym w.self-is) takes
+      | in-None-1 w ↦ subst (λ (p : Patches). TakesIn c.args.chosen.now c.args.edit.now c.args.self.now p) (sym w.self-is) takes
+    ]
 
-pub returns-in-OpenInode-clause-ok : goal.returns-in-OpenInode-clause-ok
-returns-in-OpenInode-clause-ok c =
+pub returns-in_ok-note-in-OpenInode-clause-ok : goal.returns-in_ok-note-in-OpenInode-clause-ok
+returns-in_ok-note-in-OpenInode-clause-ok c =
     let was = c.self.inside in
     let old : Patches = record { inodes = was.inodes; rights = was.rights; openings = was.openings; slots = was.slots; unnamed_inodes = was.unnamed_inodes.items } in
     let new : Patches = record old { openings = c.open.new.self; slots = c.note.new.self } in
@@ -32,7 +38,7 @@ returns-in-OpenInode-clause-ok c =
     (subst (λ (p : Patches). TakesIn chosen (Open_inode c.in-OpenInode.index c.in-OpenInode.inode c.in-OpenInode.mode c.in-OpenInode.process c.in-OpenInode.descriptor) p new) c.self.view_is
     (opening_takes chosen c.in-OpenInode.index c.in-OpenInode.inode c.in-OpenInode.mode c.in-OpenInode.process c.in-OpenInode.descriptor old c.open.new.self c.note.new.self
     (subst (λ m. AtOpening m (IsOpened (at_start (number chosen c.in-OpenInode.inode) c.in-OpenInode.mode)) was.openings c.open.new.self) at (subst (λ d. AtOpening c.index-chosen-index.result (IsOpened d) was.openings c.open.new.self) it c.open.ensures))
-    (subst (λ m. AtSlots c.in-OpenInode.process c.in-OpenInode.descriptor (Some m) was.slots c.note.new.self) at c.in_ok-note.ensures.ok)))
+    (subst (λ m. AtSlots c.in-OpenInode.process c.in-OpenInode.descriptor (Some m) was.slots c.note.new.self) at c.in_ok-note-in-OpenInode.ensures.ok)))
 
 pub returns-in-ClearSlot-clause-ok : goal.returns-in-ClearSlot-clause-ok
 returns-in-ClearSlot-clause-ok c =

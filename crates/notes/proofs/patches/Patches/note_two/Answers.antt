@@ -7,9 +7,9 @@ use Rattle.notes.proofs.Outcomes.{ok_so, on_err}
 use Rattle.notes.proofs.patches.Patches.note_two.Goals as goal
 
 -- what is sure is not refused
-not_refused : {A E P : Type 0} (r : Result A E) → IsOk r → OnErr r P
-not_refused (Ok x) sure = tt
-not_refused (Err e) sure = absurd sure
+not_refused : {A E : Type 0} (P : Type 0) (r : Result A E) → IsOk r → OnErr r P
+not_refused P (Ok x) sure = tt
+not_refused P (Err e) sure = absurd cc
 
 -- an edit that needs a place has one
 module _ {A E S : Type 0} (r : Result A E) where
@@ -43,21 +43,21 @@ pub note_last-requires-clause-fits : goal.note_last-requires-clause-fits
 note_last-requires-clause-fits c =
     subst (λ r. IfOk r (λ place. IfSome place (IsPlaceOf c.args.last.now))) c.in-Ok.is c.slot_place.ensures.fits
 
-pub returns-in-Ok-clause-err : goal.returns-in-Ok-clause-err
-returns-in-Ok-clause-err c = not_refused c.note_last.result
+pub returns-in_ok-note_first-in-Ok-clause-err : goal.returns-in_ok-note_first-in-Ok-clause-err
+returns-in_ok-note_first-in-Ok-clause-err c = not_refused _ c.note_last.result
     (has_place c.note_last.result c.args.last.now
     (subst (λ r. IfOk r (λ place. NeedsPlace c.args.last.now → IsSome place)) c.in-Ok.is c.slot_place.ensures.there)
     c.note_last.ensures.sure c.note_last.ensures.free)
 
-pub returns-in_err-note_first-clause-err : goal.returns-in_err-note_first-clause-err
-returns-in_err-note_first-clause-err c =
+pub returns-in_err-note_first-in-Ok-clause-err : goal.returns-in_err-note_first-in-Ok-clause-err
+returns-in_err-note_first-in-Ok-clause-err c =
     on_err c.from_residual.result
-    (same_patches c.args.self.now c.make_places.new.self c.note_first.new.self c.make_places.ensures.same c.in_err-note_first.ensures.err)
+    (same_patches c.args.self.now c.make_places.new.self c.note_first.new.self c.make_places.ensures.same c.in_err-note_first-in-Ok.ensures.err)
 
-pub returns-in-Ok-clause-ok : goal.returns-in-Ok-clause-ok
-returns-in-Ok-clause-ok c = ok_so c.note_last.result (λ takes. (
+pub returns-in_ok-note_first-in-Ok-clause-ok : goal.returns-in_ok-note_first-in-Ok-clause-ok
+returns-in_ok-note_first-in-Ok-clause-ok c = ok_so c.note_last.result (λ takes. (
   c.note_first.new.self,
-  same_then_takes c.args.chosen.now c.args.first c.args.self.now c.make_places.new.self c.note_first.new.self c.make_places.ensures.same c.in_ok-note_first.ensures.ok,
+  same_then_takes c.args.chosen.now c.args.first c.args.self.now c.make_places.new.self c.note_first.new.self c.make_places.ensures.same c.in_ok-note_first-in-Ok.ensures.ok,
   (c.note_last.new.self, takes, refl),
 )) c.note_last.ensures.ok
 

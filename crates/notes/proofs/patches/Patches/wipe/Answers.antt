@@ -1,4 +1,4 @@
-use Rattle.std.proofs.Common.{List, [], ℕ, refl, subst}
+use Rattle.std.proofs.Common.{[], refl, subst}
 use Rattle.model.specs.Changes.{Wipe}
 use Rattle.notes.specs.Patches.{Patches}
 use Rattle.notes.specs.Steps.{TakesIn}
