@@ -1,5 +1,6 @@
 pub mod HolderCounts
 pub mod SlotSteps
+pub mod SlotSums
 pub mod TableSteps
 pub mod ProcessSteps
 pub mod InodeSteps

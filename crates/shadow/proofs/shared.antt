@@ -4,3 +4,4 @@ pub mod PlaceLemmas
 pub mod ProcessLemmas
 pub mod CommittedLemmas
 pub mod SoundnessLemmas
+pub mod RisingKeys

@@ -198,7 +198,7 @@ pub record SlotsStay (ps qs : Processes) (old new : Numbers) : Type 0 where
 -- of a count of holders, after a slot more that gives a description, and after one less
 abbrev pub IsOneMore : Option ℕ → ℕ → ℕ → ℕ → Type 0
 IsOneMore given d before after =
-    before + 1 < 2 ^ 128 → after ≡ before + times d (listed given)
+    before + times d (listed given) < 2 ^ 128 → after ≡ before + times d (listed given)
 
 abbrev pub IsOneLess : Option ℕ → ℕ → ℕ → ℕ → Type 0
 IsOneLess former d before after = after ≡ before - times d (listed former)
