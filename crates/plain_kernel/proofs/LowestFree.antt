@@ -1,5 +1,5 @@
 -- The lowest descriptor that is not open, where it is below the limit, is the first of those that are free.
-use Rattle.std.proofs.Common.{◌≡◌, ◌≢◌, ℕ, ◌<◌, ◌≤◌, true, false, Option, Some, None, refl, sym, ap, subst, arith}
+use Rattle.std.proofs.Common.{◌≡◌, ◌≢◌, ℕ, ◌<◌, ◌≤◌, true, Option, Some, None, refl, sym, ap, subst, arith}
 use Rattle.std.specs.Option.{is_some}
 use Rattle.model.specs.FiniteMap.{get}
 use Rattle.model.specs.State.{Kernel}

@@ -1,4 +1,4 @@
-use Rattle.std.proofs.Common.{◌≡◌, ◌≤◌, None, nat_cmp, sym, ap, subst, ◌∙◌}
+use Rattle.std.proofs.Common.{◌≤◌, nat_cmp, sym, ap, subst, ◌∙◌}
 use Rattle.model.specs.FiniteMap.{get, get-empty}
 use Rattle.model.specs.Changes.{or_new}
 use Rattle.plain_kernel.proofs.plain.PlainKernel.lowest.Goals as goal

@@ -1,7 +1,7 @@
-use Rattle.std.proofs.Common.{◌≡◌, ℕ, ◌+◌, ◌-◌, ◌/◌, ◌≤◌, length, None, IsTrue, nat_cmp, sym, ap, subst, ◌∙◌, arith}
+use Rattle.std.proofs.Common.{◌≡◌, ◌+◌, ◌-◌, ◌/◌, None, IsTrue, nat_cmp, sym, ap, subst, ◌∙◌, arith}
 use Rattle.std.specs.FinMap.Entries.{is_sorted}
 use Rattle.model.specs.FiniteMap as map
-use Rattle.plain_kernel.proofs.Rising.{key, key_read, not_before, taken_more, wider_more, free_at, taken_at}
+use Rattle.plain_kernel.proofs.Rising.{key_read, not_before, taken_more, wider_more, free_at, taken_at}
 use Rattle.plain_kernel.proofs.table.Table.free_from.Goals as goal
 
 pub overflow_sub-num-inside : goal.overflow_sub-num-inside
