@@ -2,6 +2,7 @@ pub mod HolderCounts
 pub mod SlotSteps
 pub mod SlotSums
 pub mod TableSteps
+pub mod LaidTables
 pub mod ProcessSteps
 pub mod InodeSteps
 pub mod FileBytes

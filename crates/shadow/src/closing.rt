@@ -36,12 +36,12 @@ pub(crate) fn close_given(store: &mut Store, former: &SlotPatch)
         → Frees (all_closed (flat_map (λ g. given_by g.1) (entries former.now))) ps store.old
         store.new }
 {
-    // For the proof: only descriptors below the limit are noted.
-    former.noted_are_low();
     let mut from = 0;
     while let Some(fd) = former.noted_from(from) {
-        if let Some(Some(description)) = former.get(fd) {
-            close(store, description);
+        match former.get(fd) {
+            Some(Some(description)) => close(store, description),
+            Some(None) => (),
+            None => (),
         }
         from = fd.0 + 1;
     }

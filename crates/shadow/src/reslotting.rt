@@ -62,9 +62,11 @@ pub(crate) fn lay_table(
     let_go(store, patch);
 }
 
-// Counts for each description one slot more for each change that gives it.
+// Counts for each description one slot more for each change that gives it. All changes are of
+// descriptors below the limit.
 fn hold_given(store: &mut Store, patch: &SlotPatch)
-    ensures { AreHeld (IsMoreBy patch.now) store.old store.new }
+    ensures held { AreHeld (IsMoreBy patch.now) store.old store.new }
+    ensures low { (f : ℕ) → get patch.now f ≢ None → f < DESCRIPTORS }
 {
     // For the proof: only descriptors below the limit are noted.
     patch.noted_are_low();
@@ -81,8 +83,6 @@ fn hold_given(store: &mut Store, patch: &SlotPatch)
 fn let_go(store: &mut Store, former: &SlotPatch)
     ensures { AreHeld (IsLessBy former.now) store.old store.new }
 {
-    // For the proof: only descriptors below the limit are noted.
-    former.noted_are_low();
     let mut from = 0;
     while let Some(fd) = former.noted_from(from) {
         if let Some(given) = former.get(fd) {
@@ -145,8 +145,13 @@ impl Processes {
     fn lay(&mut self, pid: Pid, patch: &mut SlotPatch, room: SlotRoom)
         requires room { (f : ℕ) → get patch.old f ≢ None → HasRoom room f }
         requires living { entries patch.old ≢ [] → get (numbered self.old) pid ≢ None }
-        ensures slots { self.new ≡ with_process pid
-            (reslotted (Some patch.old) (get (numbered self.old) pid)) self.old }
+        ensures here { get (numbered self.new) pid
+            ≡ reslotted (Some patch.old) (get (numbered self.old) pid) }
+        ensures others { (q : ℕ) → q ≢ pid
+            → get (numbered self.new) q ≡ get (numbered self.old) q }
+        ensures count { length self.new.list ≡ length self.old.list }
+        ensures bounds { self.new.bounds ≡ self.old.bounds }
+        ensures few { length self.old.list < 2 ^ 64 }
         ensures former { IsFormer patch.old (table_in (get (numbered self.old) pid)) patch.new }
     {
         let number = pid.0 as usize;

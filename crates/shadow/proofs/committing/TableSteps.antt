@@ -116,7 +116,7 @@ giving_few patch low d =
         omega (arith, sum, one, rest)
 
 -- a process that is there, with its slots changed
-slots_of : (gs : List (ℕ × Option ℕ)) (p : Process) → reslotted_by gs (Some p) ≡ Some (with_slots gs p)
+pub slots_of : (gs : List (ℕ × Option ℕ)) (p : Process) → reslotted_by gs (Some p) ≡ Some (with_slots gs p)
 slots_of [] p = refl
 slots_of (g ∷ gs) p = refl
 

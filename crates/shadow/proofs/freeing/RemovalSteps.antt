@@ -2,7 +2,7 @@
 use Rattle.std.proofs.Common.{◌≡◌, ℕ, ◌+◌, ◌≤◌, ◌<◌, List, [], ◌∷◌, ◌++◌, map, Option, Some, None, nat_cmp, refl, sym, ap, subst, ◌∙◌}
 use Rattle.std.specs.List.{flat_map}
 use Rattle.std.proofs.lemmas.List.Concat.{flat_map-cons}
-use Rattle.model.specs.FiniteMap.{FinMap, entries, get}
+use Rattle.model.specs.FiniteMap.{FinMap, entries, get, values}
 use Rattle.model.specs.State.{Kernel}
 use Rattle.freeing_laws.specs.Sweep.{all_closed, closed}
 use Rattle.store.specs.Numbers.{Numbers}
@@ -10,7 +10,7 @@ use Rattle.shadow.specs.Claims.{Claim}
 use Rattle.fdtable.specs.Patches.{Given}
 use Rattle.shadow.specs.Laid.{Frees, Holds, given_by, kept_in}
 use Rattle.shadow.specs.Stored.{Processes, state_of}
-use Rattle.shadow.proofs.shared.RisingKeys.{from_on, next_on}
+use Rattle.shadow.proofs.shared.RisingKeys.{all_on, from_on, next_on, none_on}
 
 -- what is left of all is still to go, by f
 pub record Leaves (f : List ℕ → Kernel → Kernel) (start now : Numbers) (all rest : List ℕ) : Type 0 where
@@ -74,3 +74,28 @@ module _ (table : FinMap nat_cmp ℕ) (n f : ℕ) (low : n ≤ f) (none : (q : �
       → (after : Numbers) → ((ps : Processes) → Holds ps now → Frees (closed d) ps now after) → Leaves all_closed start after all (open_from table (f + 1))
   open_one start now all leaves d is after frees =
       leaves_less all_closed (closed d) start now after all (open_from table n) (open_from table (f + 1)) (λ k. ap (λ ds. all_closed ds k) (open_next d is)) leaves frees
+
+-- at first all are left, and at the end none
+abbrev given_all : Given → List ℕ
+given_all patch = flat_map (λ g. given_by g.1) (entries patch)
+
+pub given_start : (patch : Given) (s : Numbers) → (ps : Processes) × Holds ps s → Leaves all_closed s s (given_all patch) (given_from patch 0)
+given_start patch s some =
+    subst (Leaves all_closed s s (given_all patch)) (ap (flat_map (λ (g : ℕ × Option ℕ). given_by g.1)) (sym (all_on patch)))
+    (leaves_all all_closed s (given_all patch) some)
+
+pub given_end : (patch : Given) (s now : Numbers) (n : ℕ) → ((q : ℕ) → n ≤ q → get patch q ≡ None) → Leaves all_closed s now (given_all patch) (given_from patch n)
+    → (ps : Processes) → Holds ps s → Frees (all_closed (given_all patch)) ps s now
+given_end patch s now n none =
+    leaves_none all_closed s now (given_all patch) (given_from patch n)
+    (λ k. ap (λ es. all_closed (flat_map (λ (g : ℕ × Option ℕ). given_by g.1) es) k) (none_on patch n none))
+
+pub open_start : (table : FinMap nat_cmp ℕ) (s : Numbers) → (ps : Processes) × Holds ps s → Leaves all_closed s s (values table) (open_from table 0)
+open_start table s some =
+    subst (Leaves all_closed s s (values table)) (ap (map (λ (e : ℕ × ℕ). e.1)) (sym (all_on table))) (leaves_all all_closed s (values table) some)
+
+pub open_end : (table : FinMap nat_cmp ℕ) (s now : Numbers) (n : ℕ) → ((q : ℕ) → n ≤ q → get table q ≡ None) → Leaves all_closed s now (values table) (open_from table n)
+    → (ps : Processes) → Holds ps s → Frees (all_closed (values table)) ps s now
+open_end table s now n none =
+    leaves_none all_closed s now (values table) (open_from table n)
+    (λ k. ap (λ es. all_closed (map (λ (e : ℕ × ℕ). e.1) es) k) (none_on table n none))

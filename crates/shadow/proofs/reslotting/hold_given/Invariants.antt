@@ -5,8 +5,8 @@ use Rattle.shadow.specs.Laid.{AreHeld}
 use Rattle.shadow.proofs.committing.HeldSteps.{IsMoreTo}
 use Rattle.shadow.proofs.reslotting.hold_given.Given as goal
 
-abbrev pub invariant-loop-from : goal.invariant-loop-from
-invariant-loop-from l = AreHeld (IsMoreTo l.patch l.from) l.fn.store l.store
+abbrev pub invariant-loop-fd : goal.invariant-loop-fd
+invariant-loop-fd l = AreHeld (IsMoreTo l.patch l.from) l.fn.store l.store
 
-abbrev pub decreases-loop-from : goal.decreases-loop-from
-decreases-loop-from l = DESCRIPTORS - l.from
+abbrev pub decreases-loop-fd : goal.decreases-loop-fd
+decreases-loop-fd l = DESCRIPTORS - l.from

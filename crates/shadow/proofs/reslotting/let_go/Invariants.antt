@@ -5,8 +5,8 @@ use Rattle.shadow.specs.Laid.{AreHeld}
 use Rattle.shadow.proofs.committing.HeldSteps.{IsLessTo}
 use Rattle.shadow.proofs.reslotting.let_go.Given as goal
 
-abbrev pub invariant-loop-from : goal.invariant-loop-from
-invariant-loop-from l = AreHeld (IsLessTo l.former l.from) l.fn.store l.store
+abbrev pub invariant-loop-fd : goal.invariant-loop-fd
+invariant-loop-fd l = AreHeld (IsLessTo l.former l.from) l.fn.store l.store
 
-abbrev pub decreases-loop-from : goal.decreases-loop-from
-decreases-loop-from l = DESCRIPTORS - l.from
+abbrev pub decreases-loop-fd : goal.decreases-loop-fd
+decreases-loop-fd l = DESCRIPTORS - l.from

@@ -41,26 +41,22 @@ unreachable-requires c =
     absurd (c.requires.pid (sym (reads ps c.args.self.now c.pid.inside.0 c.args.pid c.self.view_is c.pid.view_is c.requires.pid c.index_mut.result.now c.index_mut.ensures.value)
     ∙ c.in-None.is))
 
--- the process at the place
-here : (c : goal.After-give_in)
-    → Some c.in-Some.process.now ≡ get (numbered c.args.self.now) c.args.pid
-here c =
+pub returns-clause-former : goal.returns-clause-former
+returns-clause-former c =
     let ps : Processes = record { list = c.self.inside.list.items; bounds = c.self.inside.bounds } in
-    sym c.in-Some.is
-    ∙ reads ps c.args.self.now c.pid.inside.0 c.args.pid c.self.view_is c.pid.view_is c.requires.pid c.index_mut.result.now c.index_mut.ensures.value
+    let here : Some c.in-Some.process ≡ get (numbered c.args.self.now) c.args.pid =
+    sym c.in-Some.is ∙ reads ps c.args.self.now c.pid.inside.0 c.args.pid c.self.view_is c.pid.view_is c.requires.pid c.index_mut.result.now c.index_mut.ensures.value in
+    subst (λ (o : Option Process). IfOk c.give_in.result (λ former. former ≡ get (table_in o) c.args.fd)) here c.give_in.ensures.former
 
-pub returns-in-Some-clause-former : goal.returns-in-Some-clause-former
-returns-in-Some-clause-former c =
-    subst (λ (o : Option Process). IfOk c.give_in.result (λ former. former ≡ get (table_in o) c.args.fd))
-    (here c) c.give_in.ensures.former
-
-pub returns-in-Some-clause-slot : goal.returns-in-Some-clause-slot
-returns-in-Some-clause-slot c =
+pub returns-clause-slot : goal.returns-clause-slot
+returns-clause-slot c =
     let ps : Processes = record { list = c.self.inside.list.items; bounds = c.self.inside.bounds } in
+    let here : Some c.in-Some.process ≡ get (numbered c.args.self.now) c.args.pid =
+    sym c.in-Some.is ∙ reads ps c.args.self.now c.pid.inside.0 c.args.pid c.self.view_is c.pid.view_is c.requires.pid c.index_mut.result.now c.index_mut.ensures.value in
     let new : Option Process = slot_noted c.args.fd c.args.given (get (numbered c.args.self.now) c.args.pid) in
     ok_so c.give_in.result (λ is.
     ap (λ (now : Option Process). with_process c.pid.inside.0 now ps)
-    (is ∙ ap (slot_noted c.args.fd c.args.given) (here c))
+    (is ∙ ap (slot_noted c.args.fd c.args.given) here)
     ∙ ap (λ (qs : Processes). with_process c.pid.inside.0 new qs) c.self.view_is
     ∙ ap (λ q. with_process q new c.args.self.now) c.pid.view_is)
     c.give_in.ensures.slot
