@@ -1,11 +1,25 @@
 -- Rooms of names that are promised, or given up again, one after the other.
-use Rattle.std.proofs.Common.{◌≡◌, ℕ, ◌+◌, ◌<◌, ◌≤◌, ◌==◌, Bool, List, [], ◌∷◌, ◌++◌, Option, Some, None, refl, sym, ap, subst, ◌∙◌, arith, eq-eqb}
+use Rattle.std.proofs.Common.{◌≡◌, ℕ, ◌+◌, ◌<◌, ◌≤◌, ◌==◌, Bool, List, [], ◌∷◌, ◌++◌, Option, Some, None, refl, sym, ap, subst, ◌∙◌, arith, eq-eqb, inl, inr}
+use Rattle.std.proofs.lemmas.Bool.{cases_eq}
 use Rattle.std.specs.List.{AllByRecursion, flat_map}
+use Rattle.std.specs.Option.{option_and_then, option_map}
+use Rattle.model.specs.FiniteMap.{get}
 use Rattle.model.specs.Changes.{Edit}
 use Rattle.freeing_laws.specs.Counts.{listed}
 use Rattle.notes.specs.Log.{effect}
 use Rattle.notes.specs.Steps.{parents_in}
+use Rattle.call_laws.proofs.Laws.{not_none}
+use Rattle.store.specs.Numbers.{Numbers}
+use Rattle.store.specs.Places.{altered, changed_object, more_room, with_listing}
+use Rattle.store.specs.declared.Object.{Object}
+use Rattle.store.specs.declared.Object.TheVariants.{Directory as Kept_directory, File as Kept_file, Pipe as Kept_pipe, Fixed as Kept_fixed, Description as Kept_description, Nothing}
+use Rattle.store.specs.declared.Place.{Place}
+use Rattle.store.specs.declared.Stage.{Stage}
 use Rattle.shadow.specs.Committed.{Committed}
+use Rattle.shadow.specs.Stored.{Processes, committed_of, reserve_in}
+use Rattle.shadow.proofs.shared.CommittedLemmas.{listed_in}
+use Rattle.shadow.proofs.shared.PlaceLemmas.{get_chosen, place_altered, place_other}
+use Rattle.shadow.proofs.claims.ClaimCounts.{IsListed, of_listed}
 use Rattle.shadow.specs.Claims.{Claim, HaveClaimed, HaveParents, IsDirectory, KeepsMore, KeepsSame, New_directory, Number, Room, Stays, as_count, claimed_by, claimed_in, kinds_in, reserved, room_in, with_kinds}
 use Rattle.shadow.proofs.claims.EditClaims.{claimed_append}
 use Rattle.shadow.proofs.claims.NewNumbers.{none_claimed, parent_claimed, parents_all}
@@ -30,6 +44,47 @@ pub one_room : (c : Claim) (d : ℕ) → claimed_in c [] (d ∷ []) ≡ room_in 
 one_room c d =
     let more : claimed_in c [] (d ∷ []) ≡ claimed_in c [] [] + room_in d c = parent_claimed c [] d in
     let none : claimed_in c [] [] ≡ 0 = none_claimed c in omega arith
+
+-- what is in use stays so, and a directory stays one
+more_listed : (o : Option Place) → IsListed o → IsListed (option_map (with_listing more_room) o)
+more_listed None there = there
+more_listed (Some place) there = by_object place.stage place.object there
+  where
+    by_object : (t : Stage) (object : Object) → IsListed (Some (record { stage = t; object = object }))
+        → IsListed (Some (record { stage = t; object = changed_object more_room object }))
+    by_object t (Kept_directory l) there = λ e. not_none _ e
+    by_object t (Kept_file file) there = there
+    by_object t (Kept_pipe pipe) there = there
+    by_object t (Kept_fixed fixed) there = there
+    by_object t (Kept_description opened) there = there
+    by_object t Nothing there = there
+
+unused_before : (o : Option Place) → option_and_then reserve_in (option_map (with_listing more_room) o) ≡ None → option_and_then reserve_in o ≡ None
+unused_before None e = refl
+unused_before (Some place) e = absurd (not_none _ e)
+
+pub stays_promised : (ps : Processes) (s : Numbers) (v : Committed) → committed_of ps s ≡ v → (d : ℕ) → Stays v (committed_of ps (altered (with_listing more_room) s d))
+stays_promised ps s v is d = record {
+  used = λ q none. ap (λ (x : Committed). get x.reserves q) (sym is) ∙ get_chosen reserve_in s.places q
+      ∙ was q (sym (get_chosen reserve_in (altered (with_listing more_room) s d).places q) ∙ none);
+  directories = λ q there. of_listed ps (altered (with_listing more_room) s d) q (listed q (listed_in ps s v is q there));
+}
+  where
+    was : (q : ℕ) → option_and_then reserve_in (get (altered (with_listing more_room) s d).places q) ≡ None → option_and_then reserve_in (get s.places q) ≡ None
+    was q none = elim (cases_eq q d) [
+      | inl here ↦ subst (λ n. option_and_then reserve_in (get s.places n) ≡ None) (sym here)
+          (unused_before (get s.places d) (ap (option_and_then reserve_in) (sym (place_altered (with_listing more_room) s d))
+          ∙ subst (λ n. option_and_then reserve_in (get (altered (with_listing more_room) s d).places n) ≡ None) here none))
+      | inr away ↦ ap (option_and_then reserve_in) (sym (place_other (with_listing more_room) s d q away)) ∙ none
+    ]
+
+    listed : (q : ℕ) → IsListed (get s.places q) → IsListed (get (altered (with_listing more_room) s d).places q)
+    listed q there = elim (cases_eq q d) [
+      | inl here ↦ subst (λ n. IsListed (get (altered (with_listing more_room) s d).places n)) (sym here)
+          (subst IsListed (sym (place_altered (with_listing more_room) s d))
+          (more_listed (get s.places d) (subst (λ n. IsListed (get s.places n)) here there)))
+      | inr away ↦ subst IsListed (sym (place_other (with_listing more_room) s d q away)) there
+    ]
 
 -- in one directory, if there is one
 pub promised_one : (s t : Committed) (d : ℕ) (o : Option ℕ) → o ≡ Some d → KeepsMore s t (room_in d) → KeepsMore s t (λ c. claimed_in c [] (listed o))
