@@ -24,7 +24,7 @@ pub(crate) fn turnover(slots: &Slots, stable: &Stable, description: Num) -> (u12
     let mut taken = 0;
     for i in 0..slots.each.len() {
         let pid = slots.each[i].0;
-        let stored = stable.table(pid, &none);
+        let stored = (&*stable).table(pid, &none);
         taken += stored.count(description) as u128;
         added += slots.count_over(pid, stored, description) as u128;
     }

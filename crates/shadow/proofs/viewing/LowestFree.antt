@@ -14,7 +14,7 @@ there None some = absurd (some refl)
 
 pub first_is : (k : Kernel) (pid first limit : ℕ) (r : Option ℕ) → limit ≡ limit_of k pid → IsLowest (process_of k pid).table first limit r → r ≡ first_free k pid first
 first_is k pid first limit (Some f) is h =
-    sym (lowest_is_first k pid first f h.0.0 (subst (λ n. f < n) is h.1) (ap is_some h.0.1.0)
-    (λ g from below. there (get (process_of k pid).table g) (h.0.1.1 g from below)))
+    sym (lowest_is_first k pid first f h.0.0 (subst (λ n. f < n) is h.1) (ap is_some h.0.1)
+    (λ g from below. there (get (process_of k pid).table g) (h.0.2 g from below)))
 first_is k pid first limit None is h =
     sym (all_are_open k pid first (λ g from low. there (get (process_of k pid).table g) (h g from (subst (λ n. g < n) (sym is) low))))

@@ -4,8 +4,8 @@ use Rattle.model.specs.Changes.{Edit, applied, tidy}
 use Rattle.shadow.proofs.edits.UnusedNumbers.{same_swap}
 use Rattle.shadow.proofs.stable.Stable.exchange.Goals as goal
 
-pub returns-in-Swap-clause-state : goal.returns-in-Swap-clause-state
-returns-in-Swap-clause-state c =
+pub returns-clause-state : goal.returns-clause-state
+returns-clause-state c =
     c.swap.ensures.state
     ∙ ap (λ (k : Kernel). tidy k)
     (same_swap c.args.chosen.now c.args.self.now.state c.in-Swap.first c.in-Swap.first_name c.in-Swap.first_inode

@@ -20,17 +20,17 @@ add_name-requires-clause-dir c = first_dir c.self.inside.processes c.self.inside
 pub add_name-requires-clause-num : goal.add_name-requires-clause-num
 add_name-requires-clause-num c = first_num c.self.inside.processes c.self.inside.store c.args.first.0 c.args.first.1 c.args.first.2 c.args.second.0 c.args.second.1 c.args.second.2 c.self.invariant (swap_fits c.self.inside.processes c.self.inside.store c.args.self.now c.self.view_is c.args.first.0 c.args.first.1 c.args.first.2 c.args.second.0 c.args.second.1 c.args.second.2 c.requires.fits)
 
-pub add_name-2-requires-clause-room : goal.add_name-2-requires-clause-room
-add_name-2-requires-clause-room c l at =
+pub add_name-requires-2-clause-room : goal.add_name-requires-2-clause-room
+add_name-requires-2-clause-room c l at =
     second_room c.self.inside.processes c.self.inside.store c.args.first.0 c.args.first.1 c.args.first.2 c.args.second.0 c.args.second.1 c.args.second.2 c.self.invariant (swap_fits c.self.inside.processes c.self.inside.store c.args.self.now c.self.view_is c.args.first.0 c.args.first.1 c.args.first.2 c.args.second.0 c.args.second.1 c.args.second.2 c.requires.fits) (swap_rooms c.self.inside.processes c.self.inside.store c.args.self.now c.self.view_is c.args.first.0 c.args.first.1 c.args.first.2 c.args.second.0 c.args.second.1 c.args.second.2 c.requires.covers) l
     (ap (λ (t : Numbers). listing_at t c.args.second.0) (sym c.add_name.ensures.added) ∙ at)
 
-pub add_name-2-requires-clause-dir : goal.add_name-2-requires-clause-dir
-add_name-2-requires-clause-dir c = ap (λ (t : Numbers). is_coming (get t.places c.args.second.0)) c.add_name.ensures.added
+pub add_name-requires-2-clause-dir : goal.add_name-requires-2-clause-dir
+add_name-requires-2-clause-dir c = ap (λ (t : Numbers). is_coming (get t.places c.args.second.0)) c.add_name.ensures.added
     ∙ second_dir c.self.inside.processes c.self.inside.store c.args.first.0 c.args.first.1 c.args.first.2 c.args.second.0 c.args.second.1 c.args.second.2 c.self.invariant (swap_fits c.self.inside.processes c.self.inside.store c.args.self.now c.self.view_is c.args.first.0 c.args.first.1 c.args.first.2 c.args.second.0 c.args.second.1 c.args.second.2 c.requires.fits) (swap_rooms c.self.inside.processes c.self.inside.store c.args.self.now c.self.view_is c.args.first.0 c.args.first.1 c.args.first.2 c.args.second.0 c.args.second.1 c.args.second.2 c.requires.covers)
 
-pub add_name-2-requires-clause-num : goal.add_name-2-requires-clause-num
-add_name-2-requires-clause-num c = ap (λ (t : Numbers). may_be_named (get t.places c.args.first.2)) c.add_name.ensures.added
+pub add_name-requires-2-clause-num : goal.add_name-requires-2-clause-num
+add_name-requires-2-clause-num c = ap (λ (t : Numbers). may_be_named (get t.places c.args.first.2)) c.add_name.ensures.added
     ∙ second_num c.self.inside.processes c.self.inside.store c.args.first.0 c.args.first.1 c.args.first.2 c.args.second.0 c.args.second.1 c.args.second.2 c.self.invariant (swap_fits c.self.inside.processes c.self.inside.store c.args.self.now c.self.view_is c.args.first.0 c.args.first.1 c.args.first.2 c.args.second.0 c.args.second.1 c.args.second.2 c.requires.fits)
 
 -- the store with both names exchanged
