@@ -38,8 +38,8 @@ unreachable-requires c =
     absurd (c.requires (sym (reads ps c.args.self.now c.pid.inside.0 c.args.pid c.self.view_is c.pid.view_is c.requires c.index_mut.result.now c.index_mut.ensures.value)
     ∙ sym c.take.ensures.value ∙ c.in-None.is))
 
-pub returns-in-Some-clause-table : goal.returns-in-Some-clause-table
-returns-in-Some-clause-table c =
+pub returns-clause-table : goal.returns-clause-table
+returns-clause-table c =
     let ps : Processes = record { list = c.self.inside.list.items; bounds = c.self.inside.bounds } in
     c.into_table.ensures
     ∙ ap table_in (sym c.in-Some.is ∙ c.take.ensures.value

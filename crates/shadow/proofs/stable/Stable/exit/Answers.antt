@@ -24,44 +24,52 @@ remove-table-requires c =
     (fits_in c.self.inside.processes c.self.inside.store c.args.self.now c.args.pid c.requires.0
     c.self.view_is c.requires.1).alive
 
+pub close_all-requires : goal.close_all-requires
+close_all-requires c =
+    let ps : Processes = c.self.inside.processes in
+    let s : Numbers = c.self.inside.store in
+    let held : AreHeld (IsLessOf (gave ps c.args.pid)) s c.let_all_go.new.store =
+    subst (λ (ds : List ℕ). AreHeld (IsLessOf ds) s c.let_all_go.new.store)
+    (ap (λ m. values m) c.remove-table.ensures.table) c.let_all_go.ensures in
+    (
+      left ps c.args.pid,
+      ending_holds ps s c.let_all_go.new.store c.args.pid c.requires.0 c.self.invariant
+      (fits_in ps s c.args.self.now c.args.pid c.requires.0 c.self.view_is c.requires.1) held,
+    )
+
 -- its slots are counted no more
-held : (c : goal.After-let_all_go) → AreHeld (IsLessOf (gave c.self.inside.processes c.args.pid))
+held : (c : goal.After-drop-table-inside-2)
+    → AreHeld (IsLessOf (gave c.self.inside.processes c.args.pid))
     c.self.inside.store c.let_all_go.new.store
 held c = subst (λ (ds : List ℕ). AreHeld (IsLessOf ds) c.self.inside.store c.let_all_go.new.store)
     (ap (λ m. values m) c.remove-table.ensures.table) c.let_all_go.ensures
 
 -- the processes, of which this one is gone
-at_place : (c : goal.After-let_all_go)
+at_place : (c : goal.After-drop-table-inside-2)
     → left c.self.inside.processes c.args.pid ≡ c.remove-table.new.self
 at_place c = sym c.remove-table.ensures.gone
 
-holds : (c : goal.After-let_all_go)
-    → Holds (left c.self.inside.processes c.args.pid) c.let_all_go.new.store
-holds c =
-    ending_holds c.self.inside.processes c.self.inside.store c.let_all_go.new.store c.args.pid
-    c.requires.0 c.self.invariant
-    (fits_in c.self.inside.processes c.self.inside.store c.args.self.now c.args.pid c.requires.0
-    c.self.view_is c.requires.1) (held c)
-
-pub close_all-requires : goal.close_all-requires
-close_all-requires c = (left c.self.inside.processes c.args.pid, holds c)
-
-freed : (c : goal.After-close_all)
+-- what they gave is closed
+freed : (c : goal.After-drop-table-inside-2)
     → Frees (all_closed (gave c.self.inside.processes c.args.pid))
     (left c.self.inside.processes c.args.pid) c.let_all_go.new.store c.close_all.new.store
 freed c =
     let rs : Processes = left c.self.inside.processes c.args.pid in
     subst (λ (ds : List ℕ). Frees (all_closed ds) rs c.let_all_go.new.store c.close_all.new.store)
     (ap (λ m. values m) c.remove-table.ensures.table)
-    (c.close_all.ensures rs (holds c.before))
+    (c.close_all.ensures rs
+    (ending_holds c.self.inside.processes c.self.inside.store c.let_all_go.new.store c.args.pid
+    c.requires.0 c.self.invariant
+    (fits_in c.self.inside.processes c.self.inside.store c.args.self.now c.args.pid c.requires.0
+    c.self.view_is c.requires.1) (held c)))
 
 pub invariant_of-self : goal.invariant_of-self
 invariant_of-self c =
-    subst (λ (rs : Processes). Sound rs c.close_all.new.store) (at_place c.before)
+    subst (λ (rs : Processes). Sound rs c.close_all.new.store) (at_place c)
     (ending_sound c.self.inside.processes c.self.inside.store c.let_all_go.new.store c.args.pid
     c.requires.0 c.self.invariant
     (fits_in c.self.inside.processes c.self.inside.store c.args.self.now c.args.pid c.requires.0
-    c.self.view_is c.requires.1) (held c.before) c.close_all.new.store (freed c))
+    c.self.view_is c.requires.1) (held c) c.close_all.new.store (freed c))
 
 pub returns-clause-state : goal.returns-clause-state
 returns-clause-state c = λ pipes.
@@ -69,12 +77,12 @@ returns-clause-state c = λ pipes.
     let rs : Processes = left ps c.args.pid in
     let s : Numbers = c.self.inside.store in
     let last : Numbers = c.close_all.new.store in
-    ap (λ (rs : Processes). state_of rs last) (sym (at_place c.before))
+    ap (λ (rs : Processes). state_of rs last) (sym (at_place c))
     ∙ state_is ps rs s c.args.self.now c.self.view_is (state_of rs last)
     (λ k. tidy (applied [] (End_process c.args.pid pipes) k))
     (ending_tidy ps s c.let_all_go.new.store c.args.pid c.requires.0 c.self.invariant
     (fits_in ps s c.args.self.now c.args.pid c.requires.0 c.self.view_is c.requires.1)
-    (held c.before) last (freed c) pipes)
+    (held c) last (freed c) pipes)
 
 pub returns-clause-kept : goal.returns-clause-kept
 returns-clause-kept c =
@@ -82,7 +90,7 @@ returns-clause-kept c =
     let rs : Processes = left ps c.args.pid in
     let s : Numbers = c.self.inside.store in
     subst (λ (rs : Processes). KeepsSame c.args.self.now (committed_of rs c.close_all.new.store))
-    (at_place c.before)
+    (at_place c)
     (same_of ps rs s c.args.self.now c.self.view_is c.close_all.new.store
     (λ claim. (freed c).kept claim
-    ∙ held_keep s c.let_all_go.new.store (held c.before) claim))
+    ∙ held_keep s c.let_all_go.new.store (held c) claim))

@@ -37,10 +37,10 @@ lay_table-requires-clause-room c = λ f some.
     c.in_ok-room.ensures f (λ none. some (c.in_ok-opened.ensures f ∙ ap (mapped Some) none))
 
 -- the child, before it has descriptors
-abbrev new : goal.After-lay_table → Process
+abbrev new : goal.After-drop-none-inside-3 → Process
 new c = record { table = c.new-table.result; priority = c.priority_of-priority.result }
 
-laid : (c : goal.After-lay_table)
+laid : (c : goal.After-drop-none-inside-3)
     → IsReslotted (suc (length c.self.inside.processes.list)) c.in_ok-opened.opened
     c.lay_table.new.patch (grown c.self.inside.processes (new c))
     c.lay_table.new.processes c.self.inside.store c.lay_table.new.store
@@ -55,19 +55,19 @@ laid c =
     (subst (λ (rs : Processes). IsReslotted (c.made.result + 1) c.in_ok-opened.opened
     c.lay_table.new.patch rs qs s t) c.in_ok-push.ensures.ok c.lay_table.ensures)
 
-fits : (c : goal.After-lay_table)
+fits : (c : goal.After-drop-none-inside-3)
     → Fits [] (state_of c.self.inside.processes c.self.inside.store)
     (New_process (suc (length c.self.inside.processes.list)) c.args.parent c.requires.fits.0)
 fits c = subst (λ (v : Committed).
     Fits [] v.state (New_process (suc v.state.made) c.args.parent c.requires.fits.0))
     (sym c.self.view_is) c.requires.fits.1
 
-alike : (c : goal.After-lay_table) → c.priority_of-priority.result
+alike : (c : goal.After-drop-none-inside-3) → c.priority_of-priority.result
     ≡ (process_of (state_of c.self.inside.processes c.self.inside.store) c.args.parent).priority
 alike c = c.priority_of-priority.ensures
     ∙ ap (λ (v : Committed). (process_of v.state c.args.parent).priority) (sym c.self.view_is)
 
-noted : (c : goal.After-lay_table) (f : ℕ) → get c.in_ok-opened.opened f
+noted : (c : goal.After-drop-none-inside-3) (f : ℕ) → get c.in_ok-opened.opened f
     ≡ mapped Some (get (process_of
     (state_of c.self.inside.processes c.self.inside.store) c.args.parent).table f)
 noted c f = c.in_ok-opened.ensures f

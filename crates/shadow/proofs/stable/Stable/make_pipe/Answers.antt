@@ -12,7 +12,7 @@ use Rattle.shadow.proofs.stable.Stable.make_pipe.Goals as goal
 -- what is sure is done
 done_so : {A E P : Type 0} (r : Result A E) → IsOk r → OnOk r P → P
 done_so (Ok x) sure h = h
-done_so (Err e) sure h = absurd sure
+done_so (Err e) sure h = absurd cc
 
 pub install_as-requires-clause-coming : goal.install_as-requires-clause-coming
 install_as-requires-clause-coming c = pipe_to_come c.self.inside.processes c.self.inside.store c.args.self.now c.self.view_is c.args.pipe
@@ -34,28 +34,28 @@ open-requires-2 c = writer_still c.self.inside.processes c.self.inside.store c.a
     c.install_as.ensures.installed c.install_as.ensures.shown c.install_as.ensures.open c.open.new.store
     (subst (λ (it : Description). IsReopened c.args.reading.1 (New it) c.install_as.new.self c.open.new.store) c.end_of.ensures c.open.ensures)
 
-for_reading : (c : goal.After-lay_slot-2) → IsReopened c.args.reading.1 (New (at_start c.args.pipe to_read)) c.install_as.new.self c.open.new.store
+for_reading : (c : goal.After-unwrap-none-2) → IsReopened c.args.reading.1 (New (at_start c.args.pipe to_read)) c.install_as.new.self c.open.new.store
 for_reading c = subst (λ (it : Description). IsReopened c.args.reading.1 (New it) c.install_as.new.self c.open.new.store) c.end_of.ensures c.open.ensures
 
-for_writing : (c : goal.After-lay_slot-2) → IsReopened c.args.writing.1 (New (at_start c.args.pipe to_write)) c.open.new.store c.open-2.new.store
+for_writing : (c : goal.After-unwrap-none-2) → IsReopened c.args.writing.1 (New (at_start c.args.pipe to_write)) c.open.new.store c.open-2.new.store
 for_writing c = subst (λ (it : Description). IsReopened c.args.writing.1 (New it) c.open.new.store c.open-2.new.store) c.end_of-2.ensures c.open-2.ensures
 
 -- each of the two slots has its room, so it is given
-first : (c : goal.After-lay_slot) → IsSlotted c.args.pid c.args.reading.0
+first : (c : goal.After-unwrap-none-2) → IsSlotted c.args.pid c.args.reading.0
     (Some c.args.reading.1) c.self.inside.processes c.lay_slot.new.processes c.open-2.new.store
     c.lay_slot.new.store
-first c = done_so c.lay_slot.result (c.lay_slot.ensures.sure tt) c.lay_slot.ensures.laid
+first c = done_so c.lay_slot.result (c.lay_slot.ensures.sure refl) c.lay_slot.ensures.laid
 
-again : (c : goal.After-lay_slot-2) → IsSlotted c.args.pid c.args.writing.0
+again : (c : goal.After-unwrap-none-2) → IsSlotted c.args.pid c.args.writing.0
     (Some c.args.writing.1) c.lay_slot.new.processes c.lay_slot-2.new.processes
     c.lay_slot.new.store c.lay_slot-2.new.store
-again c = done_so c.lay_slot-2.result (c.lay_slot-2.ensures.sure tt) c.lay_slot-2.ensures.laid
+again c = done_so c.lay_slot-2.result (c.lay_slot-2.ensures.sure refl) c.lay_slot-2.ensures.laid
 
-pub unwrap-requires : goal.unwrap-requires
-unwrap-requires c = c.lay_slot.ensures.sure tt
+pub unwrap-none-requires : goal.unwrap-none-requires
+unwrap-none-requires c = c.lay_slot.ensures.sure refl
 
-pub unwrap-requires-2 : goal.unwrap-requires-2
-unwrap-requires-2 c = c.lay_slot-2.ensures.sure tt
+pub unwrap-none-requires-2 : goal.unwrap-none-requires-2
+unwrap-none-requires-2 c = c.lay_slot-2.ensures.sure refl
 
 pub lay_slot-requires-clause-pid : goal.lay_slot-requires-clause-pid
 lay_slot-requires-clause-pid c = piping_process c.self.inside.processes c.self.inside.store c.args.self.now c.self.view_is c.args.pipe
@@ -66,7 +66,8 @@ pub lay_slot-requires-2-clause-pid : goal.lay_slot-requires-2-clause-pid
 lay_slot-requires-2-clause-pid c = process_still c.self.inside.processes c.self.inside.store c.args.self.now c.self.view_is c.args.pipe
     c.args.reading.1 c.args.writing.1 c.args.pid c.args.reading.0 c.args.writing.0 c.self.invariant
     c.requires.fits c.requires.covers
-    c.lay_slot.new.processes c.open-2.new.store c.lay_slot.new.store (first c)
+    c.lay_slot.new.processes c.open-2.new.store c.lay_slot.new.store
+    (done_so c.lay_slot.result (c.lay_slot.ensures.sure refl) c.lay_slot.ensures.laid)
 
 pub invariant_of-self : goal.invariant_of-self
 invariant_of-self c = piping_sound c.self.inside.processes c.self.inside.store c.args.self.now c.self.view_is c.args.pipe

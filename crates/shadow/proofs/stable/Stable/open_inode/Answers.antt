@@ -51,8 +51,8 @@ laid c =
     c.in_ok-former.ensures.few c.in_ok-former.ensures.former refl c.count_slot.ensures.1
     c.count_slot.ensures.2)
 
-pub invariant_of-self : goal.invariant_of-self
-invariant_of-self c = opening_sound c.self.inside.processes c.self.inside.store
+pub invariant_of-self-2 : goal.invariant_of-self-2
+invariant_of-self-2 c = opening_sound c.self.inside.processes c.self.inside.store
     c.args.self.now c.self.view_is c.args.num c.args.inode c.args.mode c.args.pid c.args.fd
     c.self.invariant c.requires.fits c.requires.covers
     c.reslot.new.self c.open.new.store c.count_slot.new.store (opened c) (laid c)

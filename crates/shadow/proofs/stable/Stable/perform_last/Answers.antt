@@ -4,6 +4,7 @@ use Rattle.model.specs.State.{Kernel}
 use Rattle.model.specs.Changes.{Edit, Set_offset, applied, news, tidy}
 use Rattle.call_laws.specs.Fits.{Fits}
 use Rattle.shadow.specs.Claims.{KeepsMore, claimed_by_one}
+use Rattle.shadow.specs.Committed.{Committed}
 use Rattle.shadow.specs.Stored.{committed_of}
 use Rattle.notes.specs.Steps.{IsLast, new_in}
 use Rattle.notes.proofs.Laws.{ok_so}
@@ -11,17 +12,23 @@ use Rattle.shadow.proofs.shared.SoundnessLemmas.{less_of}
 use Rattle.shadow.proofs.edits.Offsets.{moving_kept, moving_sound, moving_state}
 use Rattle.shadow.proofs.edits.UnusedNumbers.{same_slotting, same_opening}
 use Rattle.shadow.proofs.stable.Stable.perform_last.Goals as goal
+use Rattle.shadow.proofs.stable.Stable.perform_last.Goals.{in-Some-1, in-None-1}
 
-pub invariant_of-self : goal.invariant_of-self
-invariant_of-self c = moving_sound c.self.inside.processes c.self.inside.store c.args.self.now
+pub invariant_of-self-in-SetOffset-2 : goal.invariant_of-self-in-SetOffset-2
+invariant_of-self-in-SetOffset-2 c = moving_sound c.self.inside.processes c.self.inside.store c.args.self.now
     c.self.view_is c.args.chosen.now c.in-SetOffset.description c.in-SetOffset.offset
     c.self.invariant
     (subst (Fits c.args.chosen.now c.args.self.now.state) c.in-SetOffset.is c.requires.fits)
     c.set_offset.new.self c.set_offset.ensures.moved
 
+-- what is left is the same whether there was room or not
+joined : (c : goal.Joined-room) → c.match-room.self ≡ committed_of c.self.inside.processes c.set_offset.new.self
+joined c = elim c.match-room.branch [ | in-Some-1 w ↦ w.self-is | in-None-1 w ↦ w.self-is ]
+
 pub returns-in-SetOffset-clause-state : goal.returns-in-SetOffset-clause-state
 returns-in-SetOffset-clause-state c =
-    moving_state c.self.inside.processes c.self.inside.store c.args.self.now c.self.view_is
+    ap (λ (v : Committed). v.state) (joined c)
+    ∙ moving_state c.self.inside.processes c.self.inside.store c.args.self.now c.self.view_is
     c.args.chosen.now c.in-SetOffset.description c.in-SetOffset.offset c.self.invariant
     (subst (Fits c.args.chosen.now c.args.self.now.state) c.in-SetOffset.is c.requires.fits)
     c.set_offset.new.self c.set_offset.ensures.moved
@@ -31,7 +38,8 @@ returns-in-SetOffset-clause-state c =
 pub returns-in-SetOffset-clause-kept : goal.returns-in-SetOffset-clause-kept
 returns-in-SetOffset-clause-kept c =
     let ps = c.self.inside.processes in
-    subst (λ (e : Edit). KeepsMore (committed_of ps c.set_offset.new.self) c.args.self.now
+    subst (λ (v : Committed). KeepsMore v c.args.self.now (λ claim. claimed_by_one claim c.args.chosen.now c.args.edit.now)) (sym (joined c))
+    (subst (λ (e : Edit). KeepsMore (committed_of ps c.set_offset.new.self) c.args.self.now
     (λ claim. claimed_by_one claim c.args.chosen.now e)) (sym c.in-SetOffset.is)
     (less_of ps ps c.self.inside.store c.args.self.now c.self.view_is c.set_offset.new.self
     (λ claim. claimed_by_one claim c.args.chosen.now
@@ -39,7 +47,7 @@ returns-in-SetOffset-clause-kept c =
     (moving_kept ps c.self.inside.store c.args.self.now c.self.view_is c.args.chosen.now
     c.in-SetOffset.description c.in-SetOffset.offset c.self.invariant
     (subst (Fits c.args.chosen.now c.args.self.now.state) c.in-SetOffset.is c.requires.fits)
-    c.set_offset.new.self c.set_offset.ensures.moved))
+    c.set_offset.new.self c.set_offset.ensures.moved)))
 
 pub returns-in-OpenInode-clause-state : goal.returns-in-OpenInode-clause-state
 returns-in-OpenInode-clause-state c =

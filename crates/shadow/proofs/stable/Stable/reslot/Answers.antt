@@ -39,8 +39,8 @@ closes c =
     c.requires.fits.1
     c.in_ok-former.former c.in_ok-former.ensures.former)
 
-pub invariant_of-self : goal.invariant_of-self
-invariant_of-self c =
+pub invariant_of-self-in-Some : goal.invariant_of-self-in-Some
+invariant_of-self-in-Some c =
     let ps = c.self.inside.processes in let qs = c.lay_slot.new.processes
     in let s = c.self.inside.store in let t = c.lay_slot.new.store in
     slotted_sound ps qs s t c.args.pid c.args.fd c.args.given c.requires.fits.0 c.self.invariant
