@@ -30,11 +30,17 @@ def crates_there(rt, root):
     return {it.name: it for it in rt.rtlib.crates_below(root)}
 
 
+# A check tells here when it began, and changes nothing else of what it finds.
+USED = "rattle-last-used"
+
+
 def listing(folder):
     """Returns each file below a folder, with its size and the time of its last change."""
     found = {}
     for at, _, names in os.walk(folder):
         for name in names:
+            if name == USED:
+                continue
             told = os.stat(f"{at}/{name}")
             found[f"{at}/{name}"] = told.st_size, told.st_mtime_ns
     return found
