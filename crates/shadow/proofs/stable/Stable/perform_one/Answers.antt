@@ -12,3 +12,12 @@ returns-else-is_last-clause-kept c =
     (sym (claimed_of_one c.args.chosen.now c.args.edit c.requires.kinds c.requires.count
     claim)))
     c.perform_first.ensures.kept
+
+pub returns-then-is_last-clause-kept : goal.returns-then-is_last-clause-kept
+returns-then-is_last-clause-kept c =
+    ok_so c.perform_last-performed.result
+    (λ kept claim. kept claim
+    ∙ ap (λ n. reserved c.perform_last-performed.new.self claim + n)
+    (sym (claimed_of_one c.args.chosen.now c.args.edit c.requires.kinds c.requires.count
+    claim)))
+    c.perform_last-performed.ensures.kept
