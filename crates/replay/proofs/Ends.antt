@@ -1,16 +1,16 @@
 -- What a call writes or cuts ends where a file can end.
-use Rattle.std.proofs.Common.{◌≡◌, ℕ, zero, suc, ◌+◌, ◌-◌, ◌<◌, ◌≤◌, ◌==◌, nat_le, nat_lt, not, Bool, true, false, if◌then◌else◌, List, [], ◌∷◌, length, take, min, Option, Some, None, Result, Ok, Err, IfOk, sym, subst, arith}
-use Rattle.std.specs.Prelude.{ℤ, pos, negsuc, ◌+ℤ◌, ◌++◌, ◌&&◌, ◌||◌}
+use Rattle.std.proofs.Common.{◌≡◌, ℕ, zero, suc, ◌+◌, ◌-◌, ◌<◌, ◌≤◌, ◌==◌, nat_le, nat_lt, not, Bool, true, false, if◌then◌else◌, List, [], ◌∷◌, length, take, min, Option, Some, None, Result, Ok, Err, IfOk, arith}
+use Rattle.std.specs.Prelude.{ℤ, pos, negsuc, ◌++◌, ◌&&◌, ◌||◌}
 use Rattle.std.proofs.Math.Nat.{min-le_left}
 use Rattle.std.specs.List.{AllByRecursion, list_any}
 use Rattle.model.specs.State.{A_file, A_directory, A_pipe, A_link, A_fifo, A_socket, Kernel}
 use Rattle.model.specs.Limits.{largest_file}
 use Rattle.model.specs.Plan.{Errno, Plan, Give, answer as answer_to, given, ◌>>=◌, ◌>>◌, ENOENT, ENOTDIR, ENOTEMPTY, EEXIST, EBUSY, EISDIR, EINVAL, ELOOP, ENAMETOOLONG, ENXIO, EBADF, EFBIG, EPERM, ESPIPE, EPIPE, EAGAIN, List_names, Measure, Count_ends, Find_offset, Read_pipe, Read_file, Fit, refuse_if, or_refuse}
 use Rattle.model.specs.Calls.{Call, Dup, Dup2, Open, Close, Read, Pread, Write, Pwrite, Lseek, Ftruncate, Truncate, Stat, Fstat, Link, Unlink, Rename, Exchange, Fallocate, Space, Grow, Keep, Punch, Mkdir, Rmdir, List_directory, Symlink, Readlink, Lstat, Mknod, Chmod, Chown, Fchmod, Fchown, Open_pipe, Fork, Exit, Descriptor, OpenFlags, Own, Slot, own}
-use Rattle.model.specs.Changes.{Edit, There, Open_inode, Set_offset, Put_bytes, Swap, Wipe, Cut}
+use Rattle.model.specs.Changes.{There, Open_inode, Set_offset, Wipe, Cut}
 use Rattle.model.specs.Paths.{is_empty, is_below}
 use Rattle.model.specs.Walks.{Place, Last, parsed, walk, last_of, is_directory, is_link}
-use Rattle.model.specs.Plans.{Change, changed, is_special, target_limit, duplicated, plan, status as told_status, absent, slot, free, first_of_free, is_pipe, mode, opened, cut_to, read_some, write_some, offset_named, write_from, read_pipe, piped, forked, whole_write, most_processes, place_to_write, length_named, aimed, spaced, swapped, sought, moved, replaced_by_name, room, most_moved, open_limit}
+use Rattle.model.specs.Plans.{Change, changed, is_special, target_limit, duplicated, plan, status as told_status, absent, slot, free, first_of_free, is_pipe, mode, opened, cut_to, read_some, write_some, offset_named, write_from, read_pipe, piped, forked, whole_write, most_processes, place_to_write, length_named, aimed, spaced, sought, moved, replaced_by_name, room, most_moved, open_limit}
 use Rattle.model.specs.Steps.{edits, edits_of}
 use Rattle.ids.specs.Flags.{is_reading, is_writing, is_creating, is_exclusive, is_truncating}
 use Rattle.call_laws.proofs.Laws.{after_bind, allowed, either_given, whatever}
