@@ -89,8 +89,9 @@ opens_as s later pid node cut {old = old} {new = new} {r = r} e h = subst (λ (x
 pub not_reserved : (s later : Seen) (pid node : ℕ) (name : List ℕ) {old new : Shown} {r : Result Reply Failure} → is_reserved node name ≡ false → AnswersName s later pid node name old new r → AnswersLookUp s later pid node name old new r
 not_reserved s later pid node name {old} {new} {r} e h = subst (λ (b : Bool). AnswersLookUpBy b s later pid node name old new r) (sym e) h
 
-pub renames_by : (s later : Seen) (pid node : ℕ) (name : List ℕ) (new_node : ℕ) (new_name : List ℕ) (flags : ℕ) {old new : Shown} (b : Bool) (r : Result Reply Failure) → is_exchange flags ≡ b → AnswersRenameBy b s later pid node name new_node new_name flags old new r → AnswersRename s later pid node name new_node new_name flags old new r
-renames_by s later pid node name new_node new_name flags {old} {new} b r e h = subst (λ (x : Bool). AnswersRenameBy x s later pid node name new_node new_name flags old new r) (sym e) h
+-- a rename, as its flags say
+pub renames_by : (s later : Seen) (pid node : ℕ) (name : List ℕ) (new_node : ℕ) (new_name : List ℕ) (flags : ℕ) (old new : Shown) (b : Bool) (r : Result Reply Failure) → is_exchange flags ≡ b → AnswersRenameBy b s later pid node name new_node new_name flags old new r → AnswersRename s later pid node name new_node new_name flags old new r
+renames_by s later pid node name new_node new_name flags old new b r e h = subst (λ (x : Bool). AnswersRenameBy x s later pid node name new_node new_name flags old new r) (sym e) h
 
 pub answers : (s later : Seen) (pid : ℕ) (who : Caller) {o p : Operation} (old new : Shown) (r : Result Reply Failure) → o ≡ p → IsAnswered s later pid who p old new r → IsAnswered s later pid who o old new r
 answers s later pid who old new r e h = subst (λ (x : Operation). IsAnswered s later pid who x old new r) (sym e) h

@@ -63,11 +63,13 @@ gave_one None there = false
 abbrev pub of_renaming : Option ℕ → Option ℕ → ℕ → ℕ → Events
 of_renaming moved there from to = if gave_one moved there then [] else of_moving moved from to
 
--- the directories of two names that are exchanged, and what each gave; two names of one object stay
+-- the directories of two names that are exchanged, and what each gave
+abbrev pub of_swapping : Option ℕ → Option ℕ → ℕ → ℕ → Events
+of_swapping one other from to = (from, Modified) ∷ (to, Modified) ∷ of_both one other
+
+-- two names of one object stay, and nothing changes
 abbrev pub of_exchanging : Option ℕ → Option ℕ → ℕ → ℕ → Events
-of_exchanging one other first second =
-    if gave_one one other then []
-    else (first, Modified) ∷ (second, Modified) ∷ of_both one other
+of_exchanging one other from to = if gave_one one other then [] else of_swapping one other from to
 
 -- bytes that are written
 abbrev pub of_writing : ℕ → Events

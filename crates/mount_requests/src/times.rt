@@ -9,7 +9,7 @@ ghost use Rattle.mount_requests.specs.Seen.{seen};
 ghost use Rattle.mount_requests.specs.Times.{at_time, gave_one, inode_named, of_both, of_changes};
 ghost use Rattle.mount_requests.specs.Times.{of_copying, of_cutting, of_exchanging, of_linking};
 ghost use Rattle.mount_requests.specs.Times.{of_making, of_moving, of_removing, of_renaming};
-ghost use Rattle.mount_requests.specs.Times.{of_setting};
+ghost use Rattle.mount_requests.specs.Times.{of_setting, of_swapping};
 ghost use Rattle.mount_requests.specs.Times.{of_writing, time_in, times_at, times_if, view_at};
 ghost use Rattle.mount_requests.specs.Times.{noted_in, of_names, with_events, with_events_if};
 
@@ -227,7 +227,28 @@ impl Tables {
         }
     }
 
-    // Two names change places. Nothing does where they are of one object.
+    // Two names of different objects change places.
+    fn note_swapping(&mut self, first: &DirectoryEntry, second: &DirectoryEntry)
+        requires { 4 ≤ room_of self.old.times (view_at (seen self.old) first.now.parent) }
+        ensures seen { seen self.new ≡ with_events first.now.parent
+            (of_swapping (inode_named (seen self.old) first.now.parent first.now.name)
+            (inode_named (seen self.old) second.now.parent second.now.name)
+            (inode_of (seen self.old) first.now.parent) (inode_of (seen self.old) second.now.parent))
+            (seen self.old) }
+        ensures nodes { self.new.nodes ≡ self.old.nodes }
+        ensures files { self.new.files ≡ self.old.files }
+    {
+        let view = self.view_at(first.parent);
+        let one = self.inode_named(first);
+        let other = self.inode_named(second);
+        let from = self.inode_of(first.parent);
+        let to = self.inode_of(second.parent);
+        self.note(view, from, Event::Modified);
+        self.note(view, to, Event::Modified);
+        self.note_both(view, one, other);
+    }
+
+    // Two names change places: nothing is noted where both gave one object.
     pub(crate) fn note_exchanging(&mut self, first: &DirectoryEntry, second: &DirectoryEntry)
         requires { 4 ≤ room_of self.old.times (view_at (seen self.old) first.now.parent) }
         ensures seen { seen self.new ≡ with_events first.now.parent
@@ -238,17 +259,11 @@ impl Tables {
         ensures nodes { self.new.nodes ≡ self.old.nodes }
         ensures files { self.new.files ≡ self.old.files }
     {
-        let view = self.view_at(first.parent);
         let one = self.inode_named(first);
         let other = self.inode_named(second);
-        if gave_one(one, other) {
-            return;
+        if !gave_one(one, other) {
+            self.note_swapping(first, second);
         }
-        let at = self.inode_of(first.parent);
-        let onto = self.inode_of(second.parent);
-        self.note(view, at, Event::Modified);
-        self.note(view, onto, Event::Modified);
-        self.note_both(view, one, other);
     }
 
     // A name is moved to another one: nothing is noted where both gave one object.
