@@ -1,5 +1,5 @@
 -- New numbers of edits, with what is kept for them.
-use Rattle.std.proofs.Common.{Result, Ok, Err, OnOk, OnErr, ◌≡◌, ◌≢◌, ℕ, zero, suc, ◌+◌, ◌≤◌, ◌==◌, Bool, true, false, ◌&&◌, ◌||◌, not, cond, List, [], ◌∷◌, ◌++◌, length, replicate, drop, sum_by, flat_map, Some, None, refl, sym, ap, subst, ◌∙◌, arith, eqb-true, inl, inr}
+use Rattle.std.proofs.Common.{Result, Ok, Err, OnOk, OnErr, ◌≡◌, ◌≢◌, ℕ, zero, suc, ◌+◌, ◌≤◌, ◌==◌, Bool, true, false, ◌&&◌, ◌||◌, not, cond, List, [], ◌∷◌, ◌++◌, length, replicate, drop, sum_by, flat_map, None, refl, sym, ap, subst, ◌∙◌, arith, eqb-true, inl, inr}
 use Rattle.std.specs.List.{AllByRecursion}
 use Rattle.std.proofs.lemmas.List.{length-append}
 use Rattle.std.proofs.lemmas.List.Sums.{sum_by-append, sum_by-cons}
@@ -14,8 +14,7 @@ use Rattle.model.proofs.Laws.{append-all}
 use Rattle.call_laws.proofs.Laws.{all-mapped}
 use Rattle.freeing_laws.specs.Counts.{listed, times}
 use Rattle.shadow.specs.Committed.{Committed, Reserve}
-use Rattle.shadow.specs.Claims.{AreAdded, AreUnused, Claim, Room, New_directory, Number, HasParent, HaveClaimed, HaveParents, IsClaimed, IsDirectory, IsReserved, KeepsMore, KeepsSame, claimed_by, claimed_in, kinds_in, number_as, number_of, reserved, room_in, room_of, with_kinds, or_zero, coming_directory, coming_other}
-use Rattle.notes.specs.Log.{effect}
+use Rattle.shadow.specs.Claims.{AreAdded, AreUnused, Claim, Room, New_directory, Number, HasParent, HaveClaimed, HaveParents, IsClaimed, IsDirectory, IsReserved, KeepsMore, KeepsSame, claimed_in, kinds_in, number_as, number_of, reserved, room_in, room_of, with_kinds, or_zero, coming_directory, coming_other}
 use Rattle.shadow.proofs.claims.EditClaims.{apart_at}
 use Rattle.notes.specs.Steps.{AreApart, CanEdit, IsFirst, IsLast, new_in, parents_in}
 

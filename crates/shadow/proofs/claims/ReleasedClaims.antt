@@ -10,7 +10,6 @@ use Rattle.std.proofs.lemmas.Bool.{cases_eq}
 use Rattle.model.specs.FiniteMap.{nat_cmp-IsAntisymmetric}
 use Rattle.std.proofs.Math.Nat.{suc-mul}
 use Rattle.model.proofs.Laws.{tie}
-use Rattle.freeing_laws.specs.Counts.{listed}
 use Rattle.notes.specs.declared.change.InodeChange.{InodeChange}
 use Rattle.notes.specs.declared.change.Made.{Made}
 use Rattle.notes.specs.declared.change.Made.TheVariants.{Directory, File, Pipe, Fixed}
@@ -18,7 +17,7 @@ use Rattle.notes.specs.declared.opening.Opening.{Opening}
 use Rattle.shadow.specs.Committed.{Committed}
 use Rattle.notes.specs.Patches.{Net, Patches, is_new, kept_at, net_of, or_kept}
 use Rattle.shadow.specs.Claims.{Claim, Room, New_directory, Number, IsComing, KeepsMore, as_count, claim_in, claimed_in, inode_claim, inodes_claim, is_directory_made, is_file_made, new_number, number_as, number_of, openings_claim, reserved, room_in, with_kinds}
-use Rattle.shadow.proofs.claims.NewNumbers.{none_claimed, one_claimed, parent_claimed, without_parents}
+use Rattle.shadow.proofs.claims.NewNumbers.{none_claimed, one_claimed, without_parents}
 use Rattle.shadow.proofs.claims.ClaimCounts.{number_counts}
 
 -- numbers with their kinds

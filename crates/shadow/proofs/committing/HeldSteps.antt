@@ -1,7 +1,7 @@
 -- How many slots give a description, counted one after the other.
-use Rattle.std.proofs.Common.{◌≡◌, ◌≢◌, ℕ, ◌+◌, ◌-◌, ◌<◌, ◌≤◌, ◌^◌, List, [], ◌∷◌, ◌++◌, map, Option, Some, None, nat_cmp, refl, sym, ap, ◌∙◌, arith}
+use Rattle.std.proofs.Common.{◌≡◌, ◌≢◌, ℕ, ◌+◌, ◌-◌, ◌<◌, ◌≤◌, ◌^◌, List, [], ◌∷◌, map, Option, Some, None, nat_cmp, refl, ap, ◌∙◌, arith}
 use Rattle.std.specs.List.{flat_map}
-use Rattle.model.specs.FiniteMap.{FinMap, entries, get, values}
+use Rattle.model.specs.FiniteMap.{FinMap, get, values}
 use Rattle.fdtable.specs.Patches.{Given}
 use Rattle.freeing_laws.specs.Counts.{listed, times}
 use Rattle.store.specs.Numbers.{Numbers}

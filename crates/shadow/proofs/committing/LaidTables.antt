@@ -1,7 +1,7 @@
 -- The changes of one process's slots are laid on its table, where it is there.
-use Rattle.std.proofs.Common.{◌≡◌, ◌≢◌, ℕ, ◌-◌, ◌<◌, ◌≤◌, List, [], ◌∷◌, length, set, Option, Some, None, nat_cmp, refl, sym, ap, subst, ◌∙◌}
+use Rattle.std.proofs.Common.{◌≡◌, ◌≢◌, ℕ, ◌<◌, ◌≤◌, List, [], ◌∷◌, length, Option, Some, None, nat_cmp, refl, sym, ap, ◌∙◌}
 use Rattle.std.specs.Cmp.{nat_cmp_total}
-use Rattle.model.specs.FiniteMap.{FinMap, entries, find, get, get-entries, nat_cmp-IsAntisymmetric, same_map}
+use Rattle.model.specs.FiniteMap.{entries, find, get, get-entries, nat_cmp-IsAntisymmetric, same_map}
 use Rattle.model.specs.State.{Process, mapped}
 use Rattle.fdtable.specs.Patches.{Given, IsFormer, IsLaid}
 use Rattle.notes.specs.Patches.{reslotted, reslotted_by, slots_over, with_slots}

@@ -1,5 +1,5 @@
 -- Changes of several slots of one process: how often a description is held then.
-use Rattle.std.proofs.Common.{◌≡◌, ◌≢◌, ℕ, ◌+◌, cond, T, ◌&&◌, List, [], ◌∷◌, ◌++◌, Option, Some, None, nat_cmp, refl, sym, ap, ◌∙◌, arith, inl, inr, ◌==◌}
+use Rattle.std.proofs.Common.{◌≡◌, ℕ, ◌+◌, T, List, [], ◌∷◌, ◌++◌, Option, Some, None, nat_cmp, refl, sym, ap, ◌∙◌, arith, inl, inr}
 use Rattle.std.specs.Cmp.{nat_cmp_total}
 use Rattle.std.specs.List.{flat_map}
 use Rattle.std.specs.FinMap.Entries.{is_sorted, below_all}
@@ -7,14 +7,14 @@ use Rattle.std.proofs.lemmas.Bool.{cases_eq}
 use Rattle.std.proofs.lemmas.List.Concat.{flat_map-cons}
 use Rattle.model.specs.FiniteMap.{FinMap, get, insert, same_map, nat_cmp-IsAntisymmetric}
 use Rattle.model.specs.State.{Kernel, Process}
-use Rattle.model.specs.Changes.{holders, or_new, set_process, with_slot, without_slot}
+use Rattle.model.specs.Changes.{holders, set_process}
 use Rattle.model.proofs.Laws.{get_other, get_same}
 use Rattle.fdtable.specs.Patches.{laid_at}
 use Rattle.fdtable.proofs.Laws.{laid_other}
 use Rattle.freeing_laws.specs.Counts.{listed, times}
 use Rattle.freeing_laws.proofs.Openings.{openings_change_lem}
 use Rattle.notes.specs.Openings.{slot_noted}
-use Rattle.notes.specs.Patches.{slots_over, with_slots}
+use Rattle.notes.specs.Patches.{with_slots}
 use Rattle.shadow.specs.Laid.{given_by, table_in}
 use Rattle.shadow.proofs.shared.RisingKeys.{apart_from, rest_rises}
 use Rattle.shadow.proofs.committing.SlotSteps.{held_then, times_both}

@@ -2,7 +2,7 @@
 use Rattle.std.proofs.Common.{◌≡◌, ℕ, ◌+◌, ◌<◌, ◌≤◌, true, false, [], ◌∷◌, ◌++◌, Some, refl, sym, ap, subst, ◌∙◌, arith, eq-eqb}
 use Rattle.model.specs.FiniteMap.{get, insert}
 use Rattle.model.specs.State.{A_directory, Kernel, Name, kind_of, names_of}
-use Rattle.model.specs.Changes.{Edit, Swap, applied, set_name, tidy}
+use Rattle.model.specs.Changes.{Swap, applied, set_name, tidy}
 use Rattle.call_laws.specs.Fits.{Fits}
 use Rattle.call_laws.proofs.Laws.{has_names}
 use Rattle.dirlist.specs.Listing.{Listing}

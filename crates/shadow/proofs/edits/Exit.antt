@@ -1,6 +1,6 @@
 -- A process ends: its place is empty, its slots are counted no more, and what they gave is closed.
 use Rattle.std.proofs.Common.{◌≡◌, ◌≢◌, ℕ, ◌+◌, ◌-◌, List, [], length, None}
-use Rattle.std.proofs.Common.{nat_cmp, refl, sym, ap, ◌∙◌, arith, inl, inr}
+use Rattle.std.proofs.Common.{sym, ap, ◌∙◌, arith, inl, inr}
 use Rattle.std.specs.Cmp.{nat_cmp_total}
 use Rattle.std.proofs.lemmas.Bool.{cases_eq}
 use Rattle.model.specs.FiniteMap.{get, nat_cmp-IsAntisymmetric, remove, same_map, values}

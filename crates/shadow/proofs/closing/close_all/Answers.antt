@@ -1,5 +1,5 @@
-use Rattle.std.proofs.Common.{◌≡◌, ◌+◌, ℕ, Some, sym, subst, ◌∙◌}
-use Rattle.model.specs.FiniteMap.{get, values}
+use Rattle.std.proofs.Common.{◌+◌, sym, subst, ◌∙◌}
+use Rattle.model.specs.FiniteMap.{values}
 use Rattle.freeing_laws.specs.Sweep.{all_closed}
 use Rattle.store.specs.Numbers.{Numbers}
 use Rattle.shadow.proofs.freeing.RemovalSteps.{Leaves, open_end, open_from, open_one, open_start}

@@ -1,11 +1,11 @@
-use Rattle.std.proofs.Common.{◌≡◌, ℕ, ◌+◌, ◌<◌, [], ◌∷◌, List, length, drop, get_or, sym, ap, subst, ◌∙◌, add-one}
+use Rattle.std.proofs.Common.{◌≡◌, ℕ, ◌+◌, ◌<◌, [], ◌∷◌, List, length, drop, get_or, sym, ap, ◌∙◌, add-one}
 use Rattle.std.proofs.Math.Seq.{drop-cons}
 use Rattle.std.proofs.lemmas.List.{drop_all}
 use Rattle.std.specs.List.{flat_map}
 use Rattle.model.specs.FiniteMap.{entries}
 use Rattle.fdtable.specs.Patches.{Given}
 use Rattle.freeing_laws.specs.Sweep.{all_closed}
-use Rattle.shadow.specs.Laid.{Frees, given_by, given_in}
+use Rattle.shadow.specs.Laid.{given_by, given_in}
 use Rattle.shadow.proofs.freeing.RemovalSteps.{closed_append, leaves_all, leaves_less, leaves_none}
 use Rattle.shadow.proofs.closing.close_former.Goals as goal
 

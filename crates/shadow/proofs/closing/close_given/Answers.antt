@@ -1,6 +1,6 @@
-use Rattle.std.proofs.Common.{◌≡◌, ◌+◌, ℕ, List, Option, None, Some, sym, ap, subst, ◌∙◌}
+use Rattle.std.proofs.Common.{◌+◌, ℕ, List, Some, sym, ap, subst, ◌∙◌}
 use Rattle.std.specs.List.{flat_map}
-use Rattle.model.specs.FiniteMap.{entries, get}
+use Rattle.model.specs.FiniteMap.{entries}
 use Rattle.fdtable.specs.Patches.{Given}
 use Rattle.freeing_laws.specs.Sweep.{all_closed}
 use Rattle.store.specs.Numbers.{Numbers}

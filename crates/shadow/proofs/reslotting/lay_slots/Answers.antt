@@ -1,12 +1,12 @@
-use Rattle.std.proofs.Common.{◌≡◌, ◌≢◌, ◌+◌, ◌<◌, ◌≤◌, ◌∙◌, ℕ, Bool, List, [], None, get_or, length, set, sym, ap, subst, arith, vec_len}
+use Rattle.std.proofs.Common.{◌≡◌, ◌+◌, ◌<◌, ◌≤◌, ◌∙◌, ℕ, Bool, List, [], get_or, length, set, sym, ap, subst, arith, vec_len}
 use Rattle.std.proofs.lemmas.List.{get_or_read, get_or-set_other, length-set}
 use Rattle.model.specs.FiniteMap.{empty, entries, get}
 use Rattle.fdtable.specs.Pages.{HasRoom}
 use Rattle.fdtable.specs.Patches.{Given}
 use Rattle.notes.proofs.Laws.{Entries, key_at, patch_at, room_at, rooms_reach}
 use Rattle.shadow.specs.Laid.{IsReslotted}
-use Rattle.shadow.specs.Stored.{Processes, numbered}
-use Rattle.shadow.proofs.committing.ProcessSteps.{Lays, lays_all, lays_nothing, lays_on, next_there}
+use Rattle.shadow.specs.Stored.{numbered}
+use Rattle.shadow.proofs.committing.ProcessSteps.{Lays, lays_nothing, lays_on, next_there}
 use Rattle.shadow.proofs.reslotting.lay_slots.Goals as goal
 
 pub loop-i-init : goal.loop-i-init

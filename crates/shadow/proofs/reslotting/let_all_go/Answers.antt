@@ -1,5 +1,4 @@
-use Rattle.std.proofs.Common.{◌+◌, sym, subst, Option}
-use Rattle.model.specs.FiniteMap.{get}
+use Rattle.std.proofs.Common.{◌+◌, sym, subst}
 use Rattle.store.specs.Numbers.{Numbers}
 use Rattle.shadow.specs.Laid.{AreHeld, IsOneLess}
 use Rattle.shadow.proofs.committing.HeldSteps.{IsLessOpen, open_all, open_less, open_none}

@@ -1,11 +1,11 @@
-use Rattle.std.proofs.Common.{◌≡◌, ◌≢◌, ◌≤◌, ◌∙◌, ◌-◌, ◌<◌, ℕ, Option, None, Some, List, [], length, set, get_or, sym, ap, subst, inl, inr, arith}
+use Rattle.std.proofs.Common.{◌≡◌, ◌≢◌, ◌≤◌, ◌∙◌, ◌-◌, ◌<◌, ℕ, Option, None, List, [], length, set, sym, ap, subst, inl, inr, arith}
 use Rattle.std.proofs.lemmas.List.{set-get_or}
 use Rattle.model.specs.FiniteMap.{entries, get}
 use Rattle.model.specs.State.{Process}
 use Rattle.fdtable.specs.Patches.{Given, IsFormer, IsLaid}
 use Rattle.shadow.specs.declared.stable.Processes.TheInside.{Inside}
-use Rattle.shadow.specs.Stored.{Processes, numbered, with_process}
-use Rattle.shadow.proofs.shared.ProcessLemmas.{IsProcess, no_process, read_there}
+use Rattle.shadow.specs.Stored.{Processes, numbered}
+use Rattle.shadow.proofs.shared.ProcessLemmas.{no_process, read_there}
 use Rattle.shadow.proofs.committing.LaidTables.{IsLaidIn, laid_in, not_laid}
 use Rattle.shadow.proofs.stable.Processes.lay.Goals as goal
 use Rattle.shadow.proofs.stable.Processes.lay.Goals.{in-Some, in_default, else-number-gt0-via-then-number-gt0+else-number-len, else-number-gt0-via-else-number-gt0}

@@ -6,7 +6,7 @@ use Rattle.freeing_laws.specs.Sweep.{all_closed}
 use Rattle.store.specs.Numbers.{Numbers}
 use Rattle.shadow.specs.Claims.{KeepsSame}
 use Rattle.shadow.specs.Committed.{Committed}
-use Rattle.shadow.specs.Laid.{AreHeld, Frees, Holds, IsLessOf}
+use Rattle.shadow.specs.Laid.{AreHeld, Frees, IsLessOf}
 use Rattle.shadow.specs.Stored.{Processes, Sound, committed_of, state_of}
 use Rattle.shadow.proofs.shared.SoundnessLemmas.{same_of, state_is}
 use Rattle.shadow.proofs.edits.Exit.{ending_holds, ending_sound, ending_tidy, gave, held_keep, left}
@@ -30,11 +30,10 @@ close_all-requires c =
     let s : Numbers = c.self.inside.store in
     let held : AreHeld (IsLessOf (gave ps c.args.pid)) s c.let_all_go.new.store =
     subst (λ (ds : List ℕ). AreHeld (IsLessOf ds) s c.let_all_go.new.store)
-    (ap (λ m. values m) c.remove-table.ensures.table) c.let_all_go.ensures in
-    (
+    (ap (λ m. values m) c.remove-table.ensures.table) c.let_all_go.ensures in (
       left ps c.args.pid,
       ending_holds ps s c.let_all_go.new.store c.args.pid c.requires.0 c.self.invariant
-      (fits_in ps s c.args.self.now c.args.pid c.requires.0 c.self.view_is c.requires.1) held,
+          (fits_in ps s c.args.self.now c.args.pid c.requires.0 c.self.view_is c.requires.1) held,
     )
 
 -- its slots are counted no more

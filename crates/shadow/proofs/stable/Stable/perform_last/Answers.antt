@@ -23,7 +23,7 @@ invariant_of-self-in-SetOffset-2 c = moving_sound c.self.inside.processes c.self
 
 -- what is left is the same whether there was room or not
 joined : (c : goal.Joined-room) → c.match-room.self ≡ committed_of c.self.inside.processes c.set_offset.new.self
-joined c = elim c.match-room.branch [ | in-Some-1 w ↦ w.self-is | in-None-1 w ↦ w.self-is ]
+joined c = elim c.match-room.branch [ in-Some-1 w ↦ w.self-is | in-None-1 w ↦ w.self-is ]
 
 pub returns-in-SetOffset-clause-state : goal.returns-in-SetOffset-clause-state
 returns-in-SetOffset-clause-state c =

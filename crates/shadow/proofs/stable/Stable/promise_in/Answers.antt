@@ -1,4 +1,3 @@
-use Rattle.std.proofs.Common.{Option, Some, None}
 use Rattle.notes.proofs.Laws.{ok_so}
 use Rattle.shadow.proofs.claims.Rooms.{directory_is, promised_none, promised_one}
 use Rattle.shadow.proofs.stable.Stable.promise_in.Goals as goal
