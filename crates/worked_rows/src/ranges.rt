@@ -158,7 +158,7 @@ pub(crate) static RANGES: [Row; 10] = [
 10 P1 lseek 0 0 HOLE -> 1024
 11 P1 lseek 0 1024 DATA -> 2048
 12 P1 pwrite 0 c 1500 -> 1
-13 P1 lseek 0 0 HOLE -> 3072
+13 P1 lseek 0 0 HOLE -> 4096
 14 P1 pread 0 3 1499 -> 3 \\x00c\\x00
 15 P1 fstat 0 -> file size 4096 links 1
 ",
