@@ -1,8 +1,9 @@
-use Rattle.kernel.proofs.Words.{◌≡◌, ℕ, zero, suc, ◌<◌, ◌≤◌, [], None, length, get_or, refl, sym, ◌∙◌, ap₂, subst, true, false}
+use Rattle.kernel.proofs.Words.{◌≡◌, ℕ, zero, suc, ◌<◌, ◌≤◌, [], None, length, get_or, refl, sym, ◌∙◌, ap, ap₂, subst, true, false}
 use Rattle.kernel.proofs.Words.{inl, inr, arith, cases_lt, get_or_past, get, idle, is_alive, start, at_start, most_processes}
 use Rattle.kernel.proofs.Words.{legal_start, Contender, nobody, contender_at, Fields, IsConsistent, part_at, Part, part_of, View, AreFirst, gone_slot}
 use Rattle.ids.specs.declared.limits.TheConstants.{LARGEST_FILE}
 use Rattle.model.specs.Forgetting.{whole}
+use Rattle.model.specs.Limits.{Bounds}
 use Rattle.model.specs.Moments.{Setup}
 use Rattle.call_laws.proofs.Laws.{first_processes_live}
 use Rattle.kernel.proofs.Entries.{no_priority, parts_alike}
@@ -36,7 +37,8 @@ module _ (setup : Setup) (limit : ℕ) (f : Fields) (log : f.log ≡ record { en
 pub invariant_of-result : goal.invariant_of-result
 invariant_of-result c = first_holds (record { priorities = c.args.priorities.now; bounds = bounds_of c.args.limits }) c.args.limits.entries _
     (λ i. record { entries = c.in_ok-history.ensures.empty i; priorities = c.in_ok-history.ensures.priorities i; limit = c.in_ok-history.ensures.limit i; forgotten = c.in_ok-history.ensures.whole i; bounds = c.in_ok-history.ensures.bounds i })
-    c.in-Ok-new.ensures.count c.in-Ok-new.ensures.first c.in-Ok.ensures.count c.in-Ok.ensures.first c.in-Ok.ensures.each c.in-Ok-new.ensures.state c.requires.not_too_many c.requires.files
+    c.in-Ok-new.ensures.count c.in-Ok-new.ensures.first c.in-Ok.ensures.count c.in-Ok.ensures.first c.in-Ok.ensures.each
+    (c.in-Ok-new.ensures.state ∙ ap (λ (bounds : Bounds). start 0 (record { priorities = c.args.priorities.now; bounds = bounds })) c.bounds.ensures) c.requires.not_too_many c.requires.files
 
 pub returns-clause-kept : goal.returns-clause-kept
 returns-clause-kept c = let holds = invariant_of-result c in record { legal = holds.legal; state = holds.state; forgot = holds.forgot }
