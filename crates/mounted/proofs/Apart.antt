@@ -1,5 +1,5 @@
 -- What a request about a node below a view does to times is seen in no other view.
-use Rattle.std.proofs.Common.{◌≡◌, ◌≢◌, ◌⊎◌, inl, inr, ℕ, Bool, true, false, List, [], ◌∷◌, Option, Some, None, refl, sym, ap, subst, ◌∙◌, ne_eqb}
+use Rattle.std.proofs.Common.{◌≡◌, ◌≢◌, ◌⊎◌, inl, inr, ℕ, Bool, true, false, List, [], ◌∷◌, Option, Some, refl, sym, ap, subst, ◌∙◌, ne_eqb}
 use Rattle.std.specs.Prelude.{Result, Ok, Err, ◌==◌}
 use Rattle.fuse.specs.declared.forgets.Forget.{Forget}
 use Rattle.fuse.specs.declared.reply.Reply.{Reply}
@@ -10,7 +10,7 @@ use Rattle.nodes.specs.Tables.{root_of}
 use Rattle.mount_tables.specs.Numbers.{class_of, view_of}
 use Rattle.mount_tables.specs.declared.numbers.Class.{Class}
 use Rattle.mount_tables.specs.declared.numbers.Class.TheVariants.{Tree, Transactions, Control}
-use Rattle.view_times.specs.Known.{Known, times_of}
+use Rattle.view_times.specs.Known.{times_of}
 use Rattle.view_times.specs.Known.{aborted as forgotten}
 use Rattle.view_times.proofs.Calls.{stays}
 use Rattle.mount_requests.specs.Apart.{AreApart, IsUnknownIn}

@@ -1,5 +1,5 @@
 -- Which requests need room, and what the whole tree is told to be like.
-use Rattle.std.specs.Prelude.{ℕ, ◌+◌, ◌-◌, ◌/◌, ◌^◌, min, Bool, true, false}
+use Rattle.std.specs.Prelude.{◌+◌, ◌-◌, ◌/◌, ◌^◌, min, Bool, true, false}
 use Rattle.fuse.specs.declared.errno.Errno.TheVariants as errno
 use Rattle.fuse.specs.declared.reply.Reply.{Reply}
 use Rattle.fuse.specs.declared.reply.Reply.TheVariants as reply
