@@ -70,14 +70,17 @@ frees_by : {D : Type 0} {G : Type 1} (g : G) (holds : D → Ty → Ptr → Fml)
     → ((a : D) (τ : Ty) (p : Ptr) → Keyless (holds a τ p)) → Frees g holds
 frees_by g holds h = record { frees = h }
 
-patch_sent : IsSend NamePatch.the_row
-patch_sent = search (sendable, crosses, over.crosses, maps.crosses, frees_by, frees.frees) depth 40 fits 30000
-
-bytes_sent : IsSend FileShadow.the_row
-bytes_sent = search (sendable, crosses, over.crosses, frees_by, frees.frees) depth 40 fits 30000
-
 room_sent : IsSend FileData.the_row
 room_sent = search (sendable, crosses, over.crosses, frees_by, frees.frees) depth 40 fits 30000
+
+name_sent : IsSend Name.the_row
+name_sent = search (sendable, crosses, over.crosses, frees_by, frees.frees) depth 40 fits 30000
+
+patch_sent : IsSend NamePatch.the_row
+patch_sent = search (name_sent, sendable, crosses, over.crosses, maps.crosses, frees_by, frees.frees) depth 40 fits 30000
+
+bytes_sent : IsSend FileShadow.the_row
+bytes_sent = search (room_sent, sendable, crosses, over.crosses, frees_by, frees.frees) depth 40 fits 30000
 
 waiting_sent : IsSend PipeData.the_row
 waiting_sent = search (Cells-send, Deed-send, sendable, crosses, over.crosses, frees_by, frees.frees) depth 40 fits 30000
@@ -137,7 +140,7 @@ shadow_sent : IsSend Shadow.the_row
 shadow_sent = search (patches_sent, sendable, crosses, over.crosses) depth 40 fits 30000
 
 dir_sent : IsSend Dir.the_row
-dir_sent = search (sendable, crosses, over.crosses, maps.crosses, frees_by, frees.frees) depth 40 fits 30000
+dir_sent = search (name_sent, sendable, crosses, over.crosses, maps.crosses, frees_by, frees.frees) depth 40 fits 30000
 
 open_file_sent : IsSend (OpenFile.the_field).row
 open_file_sent = search (room_sent, sendable, crosses, over.crosses) depth 40 fits 30000
@@ -207,9 +210,6 @@ call_sent = search (text_sent, sendable, crosses, over.crosses, frees_by, frees.
 
 op_sent : IsSend (Op.the_field).row
 op_sent = search (call_sent, sendable, crosses, over.crosses, frees_by, frees.frees) depth 40 fits 30000
-
-name_sent : IsSend Name.the_row
-name_sent = search (sendable, crosses, over.crosses, frees_by, frees.frees) depth 40 fits 30000
 
 names_sent : IsSend NameList.the_row
 names_sent = search (name_sent, sendable, crosses, over.crosses, frees_by, frees.frees) depth 40 fits 30000
