@@ -1,0 +1,12 @@
+mod Appending
+mod Crash
+mod Decide
+mod Found
+mod Making
+mod Numbers
+mod Opening
+mod Parts
+mod Ready
+mod Refusals
+mod Spelled
+mod Standing

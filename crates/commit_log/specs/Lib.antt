@@ -1,0 +1,10 @@
+pub mod Causes
+pub mod Create
+pub mod File
+pub mod Frame
+pub mod Header
+pub mod Kept
+pub mod Log
+pub mod Opened
+pub mod Reader
+pub mod Reads
