@@ -1,9 +1,8 @@
 // Why operations are aborted or put off: put behind what is there, and read at the front of bytes.
 ghost use Rattle.std.specs.Prelude.{◌≡◌, ◌++◌, ◌∷◌, OnOk};
-ghost use Rattle.std.specs.Int.{w64};
 ghost use Rattle.entry_codec.specs.Parts.{u64_bytes};
 ghost use Rattle.entry_codec.specs.Replies.{aspect_bytes, cause_bytes, touch_bytes, why_bytes};
-ghost use Rattle.entry_codec.specs.Reading.{Gives, number_at};
+ghost use Rattle.entry_codec.specs.Reading.{Gives};
 ghost use Rattle.entry_codec.specs.ReadingReplies.{aspect_at, aspect_of, cause_at, other_aspect_of};
 ghost use Rattle.entry_codec.specs.ReadingReplies.{touch_at, why_at};
 
@@ -78,13 +77,6 @@ pub(crate) fn put_why(out: &mut Vec<u8, Heap>, why: &Why) -> Result<(), AllocErr
 
 // ---- read
 
-fn num_of(bytes: &[u8]) -> Result<(Num, &[u8]), ReadError>
-    ensures { Gives (λ x. (x.0, x.1.now)) result (number_at w64 bytes.now) }
-{
-    let (number, rest) = u64_of(bytes)?;
-    Ok((Num(number as usize), rest))
-}
-
 // Of pipes, descriptions, links and rights.
 #[tactic(auto, unfolding(crate::specs::ReadingReplies::other_aspect_of))]
 fn other_aspect_of(number: u8, rest: &[u8]) -> Result<(Aspect, &[u8]), ReadError>
@@ -92,28 +84,28 @@ fn other_aspect_of(number: u8, rest: &[u8]) -> Result<(Aspect, &[u8]), ReadError
 {
     match number {
         ASPECT_ENDS => {
-            let (pipe, rest) = num_of(rest)?;
-            Ok((Aspect::Ends(pipe), rest))
+            let (pipe, rest) = u64_of(rest)?;
+            Ok((Aspect::Ends(Num(pipe as usize)), rest))
         }
         ASPECT_OFFSET => {
-            let (description, rest) = num_of(rest)?;
-            Ok((Aspect::Offset(description), rest))
+            let (description, rest) = u64_of(rest)?;
+            Ok((Aspect::Offset(Num(description as usize)), rest))
         }
         ASPECT_FRONT => {
-            let (pipe, rest) = num_of(rest)?;
-            Ok((Aspect::Front(pipe), rest))
+            let (pipe, rest) = u64_of(rest)?;
+            Ok((Aspect::Front(Num(pipe as usize)), rest))
         }
         ASPECT_BACK => {
-            let (pipe, rest) = num_of(rest)?;
-            Ok((Aspect::Back(pipe), rest))
+            let (pipe, rest) = u64_of(rest)?;
+            Ok((Aspect::Back(Num(pipe as usize)), rest))
         }
         ASPECT_TARGET => {
-            let (link, rest) = num_of(rest)?;
-            Ok((Aspect::Target(link), rest))
+            let (link, rest) = u64_of(rest)?;
+            Ok((Aspect::Target(Num(link as usize)), rest))
         }
         ASPECT_RIGHTS => {
-            let (inode, rest) = num_of(rest)?;
-            Ok((Aspect::Rights(inode), rest))
+            let (inode, rest) = u64_of(rest)?;
+            Ok((Aspect::Rights(Num(inode as usize)), rest))
         }
         _ => Err(fault_at(Wrong::Variant, rest)),
     }
@@ -126,26 +118,26 @@ fn numbered_aspect_of(heap: Heap, number: u8, rest: &[u8]) -> Result<(Aspect, &[
 {
     match number {
         ASPECT_ENTRY => {
-            let (directory, rest) = num_of(rest)?;
+            let (directory, rest) = u64_of(rest)?;
             let (name, rest) = name_of(heap, rest)?;
-            Ok((Aspect::Entry(directory, name), rest))
+            Ok((Aspect::Entry(Num(directory as usize), name), rest))
         }
         ASPECT_NAMES => {
-            let (directory, rest) = num_of(rest)?;
-            Ok((Aspect::Names(directory), rest))
+            let (directory, rest) = u64_of(rest)?;
+            Ok((Aspect::Names(Num(directory as usize)), rest))
         }
         ASPECT_SIZE => {
-            let (file, rest) = num_of(rest)?;
-            Ok((Aspect::Size(file), rest))
+            let (file, rest) = u64_of(rest)?;
+            Ok((Aspect::Size(Num(file as usize)), rest))
         }
         ASPECT_BLOCK => {
-            let (file, rest) = num_of(rest)?;
+            let (file, rest) = u64_of(rest)?;
             let (block, rest) = u32_of(rest)?;
-            Ok((Aspect::Block(file, block), rest))
+            Ok((Aspect::Block(Num(file as usize), block), rest))
         }
         ASPECT_LINKS => {
-            let (file, rest) = num_of(rest)?;
-            Ok((Aspect::Links(file), rest))
+            let (file, rest) = u64_of(rest)?;
+            Ok((Aspect::Links(Num(file as usize)), rest))
         }
         _ => other_aspect_of(number, rest),
     }
