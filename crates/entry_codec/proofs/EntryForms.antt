@@ -7,12 +7,11 @@ use Rattle.std.proofs.lemmas.List.{append-nil, nil_from_length, drop_at}
 use Rattle.std.specs.Prelude.{IfOk}
 use Rattle.ids.specs.declared.entry.Entry.{Entry}
 use Rattle.entry_codec.specs.declared.fault.ReadError.{ReadError}
-use Rattle.entry_codec.specs.declared.fault.ReadError.TheVariants as errors
 use Rattle.entry_codec.specs.declared.fault.Wrong.TheVariants as wrong
 use Rattle.entry_codec.specs.Parts.{list_bytes, IsList}
 use Rattle.entry_codec.specs.Calls.{op_bytes}
 use Rattle.entry_codec.specs.Entries.{nums_bytes, pids_bytes, entry_bytes, IsEntry, entries_bytes, AreEntries}
-use Rattle.entry_codec.specs.Reading.{Read, ◌>>=◌, fault_at, Fails, Gives, five, list_at, number_at}
+use Rattle.entry_codec.specs.Reading.{Read, ◌>>=◌, fault_at, Gives, five, list_at, number_at}
 use Rattle.entry_codec.specs.ReadingEntries.{nums_at, pids_at, entry_from, entry_at, entries_in}
 use Rattle.entry_codec.proofs.Formats.{IsBytes, Takes, IsFormat, bind_ok, holds_ok, ok_is, done, five_takes, five_again}
 use Rattle.entry_codec.proofs.PartForms.{u32_format, u64_format, list_format}
@@ -47,25 +46,6 @@ entry_found bytes rest e fits read =
     let size : length bytes - length rest ≡ length (entry_bytes e) = omega arith in
     let left : drop (length bytes - length rest) bytes ≡ rest = ap (λ (n : ℕ). drop n bytes) size ∙ ap (λ (b : List ℕ). drop (length (entry_bytes e)) b) t.0.parts ∙ drop_at (entry_bytes e) rest (length (entry_bytes e)) refl in
     (omega arith, (t.1, size, t.0.parts ∙ ap (λ (r : List ℕ). entry_bytes e ++ r) (sym left)))
-
--- what is read, where the form of an entry is at the front: that entry, and how many bytes it has
-pub entry_only : (bytes rest more : List ℕ) (found e : Entry) → IsBytes bytes → entry_at bytes ≡ Ok (found, rest) → IsEntry e → bytes ≡ entry_bytes e ++ more
-    → done {A = Entry × ℕ} (e, length (entry_bytes e)) ≡ done {A = Entry × ℕ} (found, length bytes - length rest)
-entry_only bytes rest more found e fits read p same =
-    let first : Entry × List ℕ = (e, more) in
-    let second : Entry × List ℕ = (found, rest) in
-    let both : done first ≡ done second = sym (ap entry_at same ∙ entry_again e more p) ∙ read in
-    let is : e ≡ found = ap (λ (y : Entry × List ℕ). y.0) (ok_is first second both) in
-    let size = (entry_found bytes rest found fits read).1.1 in
-    ap (λ (y : Entry). done {A = Entry × ℕ} (y, length (entry_bytes y))) is ∙ ap (λ (n : ℕ). done {A = Entry × ℕ} (found, n)) (sym size)
-
--- where reading fails no form of an entry is at the front
-pub entry_fails : (why : ReadError) (bytes more : List ℕ) (e : Entry) → Fails why (entry_at bytes) → IsEntry e → bytes ≡ entry_bytes e ++ more
-    → Fails why (done {A = Entry × ℕ} (e, length (entry_bytes e)))
-entry_fails errors.NoMemory bytes more e fails p same = tt
-entry_fails (errors.Fault fault) bytes more e fails p same =
-    let none : done {A = Entry × List ℕ} (e, more) ≡ Err fault = sym (ap entry_at same ∙ entry_again e more p) ∙ fails in
-    absurd cc
 
 -- no entry's bytes begin another's
 pub one_form : (e f : Entry) (rest more : List ℕ) → IsEntry e → IsEntry f → entry_bytes e ++ rest ≡ entry_bytes f ++ more → (e ≡ f) × (rest ≡ more)

@@ -1,5 +1,6 @@
 use Rattle.std.proofs.Common.{arith}
-use Rattle.entry_codec.proofs.EntryForms.{entry_fails, entry_found, entry_only}
+use Rattle.entry_codec.proofs.EntryForms.{entry_found}
+use Rattle.entry_codec.proofs.FrontForms.{entry_fails, entry_only}
 use Rattle.entry_codec.proofs.codec.read_entry.Goals as goal
 
 pub returns-in-Ok-clause-found : goal.returns-in-Ok-clause-found
