@@ -6,7 +6,7 @@ use Rattle.commit_log.specs.Frame.{part, number, frame, frame_length, HasFrame, 
 use Rattle.commit_log.specs.File.{HasNone}
 use Rattle.commit_log.proofs.Numbers.{value, value-number}
 use Rattle.commit_log.proofs.Parts.{part_held, part_of_held}
-use Rattle.commit_log.proofs.Spelled.{length-frame, length_at}
+use Rattle.commit_log.proofs.Spelled.{length-frame, length_at, place_at}
 
 -- a number where a frame has its length is the length of the record that stands there
 pub told_length : (key : ℕ) (file : List ℕ) (place told : ℕ) (head payload : List ℕ) → Holds file place head → length head ≡ 32 → number told ≡ part head 24 8 → told < 2 ^ 64 → HasRecord key file place payload → told ≡ length payload
@@ -14,6 +14,13 @@ told_length key file place told head payload held long told_at fits has =
     sym (value-number told fits)
     ∙ ap value (told_at ∙ sym (part_of_held file head place 24 8 held (omega arith)))
     ∙ length_at key file place has.0 payload has.1
+
+-- a number where a frame has its place is that of the record that stands there
+pub told_place : (key : ℕ) (file : List ℕ) (place told : ℕ) (head payload : List ℕ) → Holds file place head → length head ≡ 32 → number told ≡ part head 8 8 → told < 2 ^ 64 → place < 2 ^ 64 → HasRecord key file place payload → told ≡ place
+told_place key file place told head payload held long told_at fits place_fits has =
+    sym (value-number told fits)
+    ∙ ap value (told_at ∙ sym (part_of_held file head place 8 8 held (omega arith)) ∙ place_at key file place has.0 payload has.1)
+    ∙ value-number place place_fits
 
 -- bytes that were read, and what they were found to be
 pub found_in : (key : ℕ) (file : List ℕ) (place : ℕ) (bytes : List ℕ) (size : ℕ) (found : Option ℕ) → Holds file place bytes → length bytes ≡ size → length bytes < 2 ^ 64 → IfSome found (λ kept. (kept < 2 ^ 64) × (bytes ≡ frame key place kept (drop 32 bytes)))

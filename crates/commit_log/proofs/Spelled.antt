@@ -36,6 +36,11 @@ pub drop_32_frame : (key place kept : ℕ) (payload : List ℕ) → drop 32 (fra
 drop_32_frame key place kept payload =
     sym (drop-drop 8 24 (frame key place kept payload)) ∙ ap (drop 8) (tail_at_24 key place kept payload) ∙ drop_at (number (length payload)) payload 8 (length-number _)
 
+pub place_in_frame : (key place kept : ℕ) (payload : List ℕ) → part (frame key place kept payload) 8 8 ≡ number place
+unfolding content
+place_in_frame key place kept payload =
+    part_is (frame key place kept payload) 8 8 ∙ ap (take 8) (drop_8_frame key place kept payload) ∙ take_at (number place) (number kept ++ (number (length payload) ++ payload)) 8 (length-number place)
+
 pub kept_in_frame : (key place kept : ℕ) (payload : List ℕ) → part (frame key place kept payload) 16 8 ≡ number kept
 kept_in_frame key place kept payload =
     part_is (frame key place kept payload) 16 8 ∙ ap (take 8) (tail_at_16 key place kept payload) ∙ take_at (number kept) _ 8 (length-number kept)
@@ -52,6 +57,9 @@ payload_in_frame key place kept payload =
 module _ (key : ℕ) (file : List ℕ) (place kept : ℕ) (payload : List ℕ) (has : HasFrame key file place kept payload) where
   pub frame_within : place + frame_length payload ≤ length file
   frame_within = omega (arith, has.bytes.within, length-frame key place kept payload)
+
+  pub place_at : part file (place + 8) 8 ≡ number place
+  place_at = part_of_held file _ place 8 8 has.bytes (omega (arith, length-frame key place kept payload)) ∙ place_in_frame key place kept payload
 
   pub kept_at : value (part file (place + 16) 8) ≡ kept
   kept_at =

@@ -77,6 +77,10 @@ pub(crate) fn read_frame<D: Disk>(
     let rest = size - place - HEAD;
     let mut head = [0; HEAD];
     read_bytes(disk, place, &mut head)?;
+    // A payload is read only where its head is of this place: a look through a torn tail reads no more.
+    if number_at(&head, 8) != place as u64 {
+        return Ok(None);
+    }
     let told = number_at(&head, 24);
     if told > rest as u64 {
         return Ok(None);

@@ -3,13 +3,19 @@ use Rattle.std.specs.Prelude.{MatchOption}
 use Rattle.commit_log.specs.File.{HasNone}
 use Rattle.commit_log.specs.Frame.{HasFrame}
 use Rattle.commit_log.proofs.Parts.{written_over}
-use Rattle.commit_log.proofs.Found.{told_length, none_or_found}
+use Rattle.commit_log.proofs.Found.{told_length, told_place, none_or_found}
 use Rattle.commit_log.proofs.Spelled.{frame_within}
 use Rattle.commit_log.proofs.reading.read_frame.Goals as goal
 
 pub returns-then-saturating_sub-lt-HEAD-clause-found : goal.returns-then-saturating_sub-lt-HEAD-clause-found
 returns-then-saturating_sub-lt-HEAD-clause-found g c clean payload has =
     omega (arith, c.requires.sized clean, frame_within c.args.key (g.D.Disk.seen c.args.disk.now) c.args.place has.0 payload has.1)
+
+pub returns-then-number_at-place-clause-found : goal.returns-then-number_at-place-clause-found
+returns-then-number_at-place-clause-found g c clean payload has =
+    let file = g.D.Disk.seen c.args.disk.now in
+    let long : length c.read_bytes.new.bytes ≡ 32 = search rules in
+    omega (arith, c.if-number_at-place.true, told_place c.args.key file c.args.place c.number_at.result c.read_bytes.new.bytes payload (c.in_ok-read_bytes.ensures.read clean) long c.number_at.ensures (omega arith) (omega arith) has)
 
 pub returns-then-told-rest-clause-found : goal.returns-then-told-rest-clause-found
 returns-then-told-rest-clause-found g c clean payload has =
