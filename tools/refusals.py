@@ -16,8 +16,8 @@ sys.dont_write_bytecode = True
 import kit
 from functions import functions_of
 
-# How many edits one check tries at most.
-MOST = 24
+# How many edits one check tries at most. A check is one thread's, and beside it stand those of further edits.
+MOST = 12
 # (a function has no proof where its goals are not found, or where one that it calls is not proved)
 TOLD = re.compile(r"^fn (\S+): (proved|not proved|no proof)\b")
 ERROR = re.compile(r"^(?:note: )?(?:\./)?((?:src|proofs)/\S+?):(\d+):\d+: ")

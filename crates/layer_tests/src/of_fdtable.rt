@@ -1,4 +1,9 @@
 // What refused memory leaves of a table of descriptors and of its changes, and what takes none.
+ghost use Rattle.std.specs.Prelude.{◌≢◌, ◌<◌, ℕ, None};
+ghost use Rattle.fdtable.specs.Pages.{HasRoom};
+ghost use Rattle.ids.specs.declared.limits.TheConstants.{DESCRIPTORS};
+ghost use Rattle.model.specs.FiniteMap.{get};
+
 use fdtable::{FdTable, SlotPatch, SlotPlace, SlotRoom};
 use heap::Heap;
 use ids::{DESCRIPTORS, Fd, Num};
@@ -16,11 +21,23 @@ fn opened(rt: &impl Abort, heap: Heap) -> FdTable {
     table
 }
 
-fn noted(rt: &impl Abort, heap: Heap, room: &mut SlotRoom) -> SlotPatch {
+// One change more, with room for it.
+#[tactic(auto, using(crate::proofs::Rooms::more_has_room))]
+fn note(rt: &impl Abort, room: &mut SlotRoom, patch: &mut SlotPatch, fd: u32, given: Option<Num>)
+    requires low { fd < DESCRIPTORS }
+    requires has { (f : ℕ) → get patch.old f ≢ None → HasRoom room.old f }
+    ensures { (f : ℕ) → get patch.new f ≢ None → HasRoom room.new f }
+{
+    patch.note(room, Fd(fd), given).expect(rt, "memory");
+}
+
+fn noted(rt: &impl Abort, heap: Heap, room: &mut SlotRoom) -> SlotPatch
+    ensures { (f : ℕ) → get result f ≢ None → HasRoom room.new f }
+{
     let mut patch = SlotPatch::new(heap);
-    for (fd, given) in [(1, Some(Num(8))), (63, None), (200, Some(Num(9)))] {
-        patch.note(room, Fd(fd), given).expect(rt, "memory");
-    }
+    note(rt, room, &mut patch, 1, Some(Num(8)));
+    note(rt, room, &mut patch, 63, None);
+    note(rt, room, &mut patch, 200, Some(Num(9)));
     patch
 }
 
@@ -70,7 +87,7 @@ fn a_descriptor_beside_an_open_one_takes_no_memory(rt: HostRuntime) {
 #[test]
 fn a_refused_note_changes_nothing(rt: HostRuntime) {
     let heap = heap::open(rt.alloc()).expect(&rt, "memory");
-    let mut requests = 0;
+    let mut requests = 0u64;
     for request in 1..20u64 {
         let mut room = SlotRoom::new(heap);
         let mut patch = noted(&rt, heap, &mut room);
@@ -82,7 +99,7 @@ fn a_refused_note_changes_nothing(rt: HostRuntime) {
         drop(room);
         let given = if done { Some(Some(Num(7))) } else { None };
         assert_eq!(rt; after, [given, Some(None), None]);
-        requests += u64::from(!done);
+        requests = requests.wrapping_add(u64::from(!done));
     }
     assert!(rt; requests > 2 && requests < 19, "{requests} requests");
 }
@@ -128,17 +145,15 @@ fn changes_are_laid_without_memory(rt: HostRuntime) {
 fn a_refused_copy_leaves_the_table(rt: HostRuntime) {
     let heap = heap::open(rt.alloc()).expect(&rt, "memory");
     let table = opened(&rt, heap);
-    let mut refused = true;
-    let mut request = 0;
-    while refused && request < 100 {
-        request += 1;
+    let mut requests = 0u64;
+    for request in 1..100u64 {
         heap.refuse(request);
         let copy = table.try_clone(heap);
         heap.refuse(0);
-        refused = copy.is_err();
+        requests = requests.wrapping_add(u64::from(copy.is_err()));
         drop(copy);
     }
-    assert!(rt; request > 1 && !refused);
+    assert!(rt; requests > 0 && requests < 99, "{requests} requests");
     assert_open(&rt, heap, &table, &OPEN);
     drop(table);
 }
