@@ -1,0 +1,10 @@
+use Rattle.std.proofs.Common.{◌≡◌, ◌++◌, length, take}
+use Rattle.std.specs.List.{flat_map}
+use Rattle.entry_codec.specs.Parts.{size_bytes}
+use Rattle.entry_codec.specs.Entries.{entry_bytes}
+use Rattle.entry_codec.proofs.entries.put_each.Given as goal
+
+-- as many are put as the loop has passed
+abbrev pub invariant-loop-entry : goal.invariant-loop-entry
+invariant-loop-entry l =
+    l.out.items ≡ (l.fn.out.items ++ size_bytes (length l.entries)) ++ flat_map entry_bytes (take l.entry-index l.entries)

@@ -1,0 +1,9 @@
+use Rattle.std.proofs.Common.{◌≡◌, ◌++◌, length, take}
+use Rattle.std.specs.List.{flat_map}
+use Rattle.entry_codec.specs.Parts.{size_bytes, u64_bytes}
+use Rattle.entry_codec.proofs.entries.put_nums.Given as goal
+
+-- as many are put as the loop has passed
+abbrev pub invariant-loop-num : goal.invariant-loop-num
+invariant-loop-num l =
+    l.out.items ≡ (l.fn.out.items ++ size_bytes (length l.nums)) ++ flat_map u64_bytes (take l.num-index l.nums)
