@@ -1,11 +1,11 @@
 -- What is read at the front of bytes, where the form of an entry is there.
-use Rattle.std.proofs.Common.{◌≡◌, ℕ, List, ◌++◌, length, ◌-◌, Ok, Err, sym, ap, ◌∙◌}
+use Rattle.std.proofs.Common.{◌≡◌, ℕ, List, ◌++◌, length, ◌-◌, Ok, Err, refl, sym, ap, ◌∙◌}
 use Rattle.ids.specs.declared.entry.Entry.{Entry}
 use Rattle.entry_codec.specs.declared.fault.ReadError.{ReadError}
 use Rattle.entry_codec.specs.declared.fault.ReadError.TheVariants as errors
 use Rattle.entry_codec.specs.Entries.{entry_bytes, IsEntry}
 use Rattle.entry_codec.specs.Reading.{Fails}
-use Rattle.entry_codec.specs.ReadingEntries.{entry_at}
+use Rattle.entry_codec.specs.ReadingEntries.{entry_at, entry_in}
 use Rattle.entry_codec.proofs.Formats.{IsBytes, done, ok_is}
 use Rattle.entry_codec.proofs.EntryForms.{entry_format, entry_found}
 
@@ -27,3 +27,8 @@ entry_fails errors.NoMemory bytes more e fails p same = tt
 entry_fails (errors.Fault fault) bytes more e fails p same =
     let none : done {A = Entry × List ℕ} (e, more) ≡ Err fault = sym (ap entry_at same ∙ entry_format.again e more p) ∙ fails in
     absurd cc
+
+-- what fails at the front fails in whole
+pub entry_in_fails : (why : ReadError) (bytes : List ℕ) → Fails why (entry_at bytes) → Fails why (entry_in bytes)
+entry_in_fails errors.NoMemory bytes fails = tt
+entry_in_fails (errors.Fault fault) bytes fails = rw fails refl

@@ -1,5 +1,5 @@
 -- Entries as they are read.
-use Rattle.std.specs.Prelude.{ℕ, ◌==◌, List, length, Result, Ok, Err, if◌then◌else◌}
+use Rattle.std.specs.Prelude.{ℕ, ◌-◌, ◌==◌, List, length, Result, Ok, Err, if◌then◌else◌}
 use Rattle.std.specs.Int.{w32, w64}
 use Rattle.ids.specs.declared.call.Op.{Op}
 use Rattle.ids.specs.declared.reply.Reply.{Reply}
@@ -22,6 +22,10 @@ entry_from pid op reply chosen doomed =
 
 unfoldable pub entry_at : List ℕ → Read Entry
 entry_at bytes = five entry_from (number_at w32) op_at reply_at nums_at pids_at bytes
+
+-- the entry at the front, and how many bytes it takes
+abbrev pub entry_in : List ℕ → Result (Entry × ℕ) Fault
+entry_in bytes = entry_at bytes >>= λ x. Ok (x.0, length bytes - length x.1)
 
 -- a whole record: all of the bytes
 unfoldable pub entries_in : List ℕ → Result (List Entry) Fault

@@ -1,7 +1,8 @@
 // Answers: put behind what is there, and read at the front of bytes.
-ghost use Rattle.std.specs.Prelude.{◌≡◌, ◌++◌, ◌∷◌, OnOk};
+ghost use Rattle.std.specs.Prelude.{◌≡◌, ◌++◌, ◌∷◌, ◌<◌, ◌^◌, OnOk};
 ghost use Rattle.entry_codec.specs.Parts.{u32_bytes};
-ghost use Rattle.entry_codec.specs.Replies.{answer_bytes, names_bytes, stat_bytes};
+ghost use Rattle.entry_codec.specs.Replies.{AreNames, IsAnswer, IsStat, answer_bytes, names_bytes};
+ghost use Rattle.entry_codec.specs.Replies.{stat_bytes};
 ghost use Rattle.entry_codec.specs.Reading.{Gives, items_at, text_at};
 ghost use Rattle.entry_codec.specs.ReadingReplies.{answer_at, names_at, stat_at};
 
@@ -18,7 +19,8 @@ use ids::{Answer, Fd, Name, NameList, Num, Pid, Stat};
 use std::alloc::AllocError;
 
 fn put_stat(out: &mut Vec<u8, Heap>, stat: &Stat) -> Result<(), AllocError>
-    ensures { OnOk result (out.new.items ≡ out.old.items ++ stat_bytes stat.now) }
+    ensures put { OnOk result (out.new.items ≡ out.old.items ++ stat_bytes stat.now) }
+    ensures fits { OnOk result (IsStat stat.now) }
 {
     put_byte(out, kind_number(stat.kind))?;
     put_u64(out, stat.num.0 as u64)?;
@@ -28,7 +30,8 @@ fn put_stat(out: &mut Vec<u8, Heap>, stat: &Stat) -> Result<(), AllocError>
 }
 
 fn put_names(out: &mut Vec<u8, Heap>, names: &[Name]) -> Result<(), AllocError>
-    ensures { OnOk result (out.new.items ≡ out.old.items ++ names_bytes names.now) }
+    ensures put { OnOk result (out.new.items ≡ out.old.items ++ names_bytes names.now) }
+    ensures fits { OnOk result (AreNames names.now) }
 {
     put_size(out, names.len())?;
     for name in names {
@@ -39,15 +42,17 @@ fn put_names(out: &mut Vec<u8, Heap>, names: &[Name]) -> Result<(), AllocError>
 
 // The number of an answer, and one number.
 fn put_number(out: &mut Vec<u8, Heap>, variant: u8, number: u32) -> Result<(), AllocError>
-    ensures { OnOk result (out.new.items ≡ out.old.items ++ (variant ∷ u32_bytes number)) }
+    ensures put { OnOk result (out.new.items ≡ out.old.items ++ (variant ∷ u32_bytes number)) }
+    ensures fits { OnOk result (number < 2 ^ 32) }
 {
     put_byte(out, variant)?;
     put_u32(out, number)
 }
 
-#[tactic(auto, unfolding(crate::specs::Replies::answer_bytes))]
+#[tactic(auto, unfolding(crate::specs::Replies::answer_bytes, crate::specs::Replies::IsAnswer))]
 pub(crate) fn put_answer(out: &mut Vec<u8, Heap>, answer: &Answer) -> Result<(), AllocError>
-    ensures { OnOk result (out.new.items ≡ out.old.items ++ answer_bytes answer.now) }
+    ensures put { OnOk result (out.new.items ≡ out.old.items ++ answer_bytes answer.now) }
+    ensures fits { OnOk result (IsAnswer answer.now) }
 {
     match answer {
         Answer::Done => put_byte(out, ANSWER_DONE),

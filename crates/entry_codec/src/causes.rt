@@ -1,7 +1,8 @@
 // Why operations are aborted or put off: put behind what is there, and read at the front of bytes.
-ghost use Rattle.std.specs.Prelude.{◌≡◌, ◌++◌, ◌∷◌, OnOk};
+ghost use Rattle.std.specs.Prelude.{◌≡◌, ◌++◌, ◌∷◌, ◌<◌, ◌^◌, OnOk};
 ghost use Rattle.entry_codec.specs.Parts.{u64_bytes};
-ghost use Rattle.entry_codec.specs.Replies.{aspect_bytes, cause_bytes, touch_bytes, why_bytes};
+ghost use Rattle.entry_codec.specs.Replies.{IsAspect, IsCause, IsWhy, aspect_bytes, cause_bytes};
+ghost use Rattle.entry_codec.specs.Replies.{touch_bytes, why_bytes};
 ghost use Rattle.entry_codec.specs.Reading.{Gives};
 ghost use Rattle.entry_codec.specs.ReadingReplies.{aspect_at, aspect_of, cause_at, other_aspect_of};
 ghost use Rattle.entry_codec.specs.ReadingReplies.{touch_at, why_at};
@@ -17,15 +18,17 @@ use std::alloc::AllocError;
 
 // The number of an aspect, and that of its object.
 fn put_object(out: &mut Vec<u8, Heap>, number: u8, object: Num) -> Result<(), AllocError>
-    ensures { OnOk result (out.new.items ≡ out.old.items ++ (number ∷ u64_bytes object)) }
+    ensures put { OnOk result (out.new.items ≡ out.old.items ++ (number ∷ u64_bytes object)) }
+    ensures fits { OnOk result (object < 2 ^ 64) }
 {
     put_byte(out, number)?;
     put_u64(out, object.0 as u64)
 }
 
-#[tactic(auto, unfolding(crate::specs::Replies::aspect_bytes))]
+#[tactic(auto, unfolding(crate::specs::Replies::aspect_bytes, crate::specs::Replies::IsAspect))]
 fn put_aspect(out: &mut Vec<u8, Heap>, aspect: &Aspect) -> Result<(), AllocError>
-    ensures { OnOk result (out.new.items ≡ out.old.items ++ aspect_bytes aspect.now) }
+    ensures put { OnOk result (out.new.items ≡ out.old.items ++ aspect_bytes aspect.now) }
+    ensures fits { OnOk result (IsAspect aspect.now) }
 {
     match aspect {
         Aspect::Entry(directory, name) => {
@@ -49,22 +52,25 @@ fn put_aspect(out: &mut Vec<u8, Heap>, aspect: &Aspect) -> Result<(), AllocError
 }
 
 fn put_touch(out: &mut Vec<u8, Heap>, touch: &Touch) -> Result<(), AllocError>
-    ensures { OnOk result (out.new.items ≡ out.old.items ++ touch_bytes touch.now) }
+    ensures put { OnOk result (out.new.items ≡ out.old.items ++ touch_bytes touch.now) }
+    ensures fits { OnOk result (IsAspect touch.now.aspect) }
 {
     put_aspect(out, &touch.aspect)?;
     put_flag(out, touch.write)
 }
 
 pub(crate) fn put_cause(out: &mut Vec<u8, Heap>, cause: &Cause) -> Result<(), AllocError>
-    ensures { OnOk result (out.new.items ≡ out.old.items ++ cause_bytes cause.now) }
+    ensures put { OnOk result (out.new.items ≡ out.old.items ++ cause_bytes cause.now) }
+    ensures fits { OnOk result (IsCause cause.now) }
 {
     put_touch(out, &cause.touch)?;
     put_u32(out, cause.other.0)
 }
 
-#[tactic(auto, unfolding(crate::specs::Replies::why_bytes))]
+#[tactic(auto, unfolding(crate::specs::Replies::why_bytes, crate::specs::Replies::IsWhy))]
 pub(crate) fn put_why(out: &mut Vec<u8, Heap>, why: &Why) -> Result<(), AllocError>
-    ensures { OnOk result (out.new.items ≡ out.old.items ++ why_bytes why.now) }
+    ensures put { OnOk result (out.new.items ≡ out.old.items ++ why_bytes why.now) }
+    ensures fits { OnOk result (IsWhy why.now) }
 {
     match why {
         Why::Clash(cause) => {

@@ -3,7 +3,7 @@ ghost use Rattle.std.specs.Prelude.{◌≡◌, ◌++◌, List, ℕ, IfOk, OnErr,
 ghost use Rattle.ids.specs.declared.entry.Entry.{Entry};
 ghost use Rattle.entry_codec.specs.Entries.{AreEntries, IsEntry, entries_bytes, entry_bytes};
 ghost use Rattle.entry_codec.specs.Reading.{Gives};
-ghost use Rattle.entry_codec.specs.ReadingEntries.{entries_in};
+ghost use Rattle.entry_codec.specs.ReadingEntries.{entries_in, entry_in};
 
 use crate::entries::{entries_of, entry_of, put_each, put_fields};
 use crate::fault::ReadError;
@@ -16,6 +16,8 @@ use std::alloc::AllocError;
 pub fn put_entry(entry: &Entry, out: &mut Vec<u8, Heap>) -> Result<(), AllocError>
     ensures ok { OnOk result (out.new.items ≡ out.old.items ++ entry_bytes entry.now) }
     ensures err { OnErr result (out.new.items ≡ out.old.items) }
+    // Its numbers are in their ranges, so what is put is read again.
+    ensures fits { OnOk result (IsEntry entry.now) }
 {
     let mut bytes = Vec::new(*out.allocator());
     put_fields(&mut bytes, entry)?;
@@ -28,6 +30,8 @@ pub fn put_entry(entry: &Entry, out: &mut Vec<u8, Heap>) -> Result<(), AllocErro
 pub fn put_entries(entries: &[Entry], out: &mut Vec<u8, Heap>) -> Result<(), AllocError>
     ensures ok { OnOk result (out.new.items ≡ out.old.items ++ entries_bytes entries.now) }
     ensures err { OnErr result (out.new.items ≡ out.old.items) }
+    // Their numbers are in their ranges, so what is put is read again.
+    ensures fits { OnOk result (AreEntries entries.now) }
 {
     let mut bytes = Vec::new(*out.allocator());
     put_each(&mut bytes, entries)?;
@@ -45,6 +49,8 @@ pub fn read_entry(heap: Heap, bytes: &[u8]) -> Result<(Entry, usize), ReadError>
     // What was put is read, whatever stands behind it, unless memory is refused.
     ensures only { (e : Entry) (rest : List ℕ) → IsEntry e → bytes.now ≡ entry_bytes e ++ rest
         → Gives (λ x. x) result (Ok (e, length (entry_bytes e))) }
+    // Which fault it is.
+    ensures exact { Gives (λ x. x) result (entry_in bytes.now) }
 {
     match entry_of(heap, bytes) {
         Ok((entry, rest)) => Ok((entry, bytes.len() - rest.len())),

@@ -1,7 +1,9 @@
 // Entries: put behind what is there, and read at the front of bytes.
-ghost use Rattle.std.specs.Prelude.{◌≡◌, ◌++◌, OnOk};
+ghost use Rattle.std.specs.Prelude.{◌≡◌, ◌++◌, ◌<◌, ◌^◌, OnOk};
 ghost use Rattle.std.specs.Int.{w32, w64};
-ghost use Rattle.entry_codec.specs.Entries.{entries_bytes, entry_bytes, nums_bytes, pids_bytes};
+ghost use Rattle.entry_codec.specs.Parts.{IsList};
+ghost use Rattle.entry_codec.specs.Entries.{AreEntries, IsEntry, entries_bytes, entry_bytes};
+ghost use Rattle.entry_codec.specs.Entries.{nums_bytes, pids_bytes};
 ghost use Rattle.entry_codec.specs.Reading.{Gives, items_at, number_at};
 ghost use Rattle.entry_codec.specs.ReadingEntries.{entries_in, entry_at, nums_at, pids_at};
 
@@ -15,7 +17,8 @@ use ids::{Entry, Num, Nums, Pid, Pids};
 use std::alloc::AllocError;
 
 fn put_nums(out: &mut Vec<u8, Heap>, nums: &[Num]) -> Result<(), AllocError>
-    ensures { OnOk result (out.new.items ≡ out.old.items ++ nums_bytes nums.now) }
+    ensures put { OnOk result (out.new.items ≡ out.old.items ++ nums_bytes nums.now) }
+    ensures fits { OnOk result (IsList (λ n. n < 2 ^ 64) nums.now) }
 {
     put_size(out, nums.len())?;
     for num in nums {
@@ -25,7 +28,8 @@ fn put_nums(out: &mut Vec<u8, Heap>, nums: &[Num]) -> Result<(), AllocError>
 }
 
 fn put_pids(out: &mut Vec<u8, Heap>, pids: &[Pid]) -> Result<(), AllocError>
-    ensures { OnOk result (out.new.items ≡ out.old.items ++ pids_bytes pids.now) }
+    ensures put { OnOk result (out.new.items ≡ out.old.items ++ pids_bytes pids.now) }
+    ensures fits { OnOk result (IsList (λ n. n < 2 ^ 32) pids.now) }
 {
     put_size(out, pids.len())?;
     for pid in pids {
@@ -36,7 +40,8 @@ fn put_pids(out: &mut Vec<u8, Heap>, pids: &[Pid]) -> Result<(), AllocError>
 
 #[tactic(auto, unfolding(crate::specs::Entries::entry_bytes))]
 pub(crate) fn put_fields(out: &mut Vec<u8, Heap>, entry: &Entry) -> Result<(), AllocError>
-    ensures { OnOk result (out.new.items ≡ out.old.items ++ entry_bytes entry.now) }
+    ensures put { OnOk result (out.new.items ≡ out.old.items ++ entry_bytes entry.now) }
+    ensures fits { OnOk result (IsEntry entry.now) }
 {
     put_u32(out, entry.pid.0)?;
     put_op(out, &entry.op)?;
@@ -46,7 +51,8 @@ pub(crate) fn put_fields(out: &mut Vec<u8, Heap>, entry: &Entry) -> Result<(), A
 }
 
 pub(crate) fn put_each(out: &mut Vec<u8, Heap>, entries: &[Entry]) -> Result<(), AllocError>
-    ensures { OnOk result (out.new.items ≡ out.old.items ++ entries_bytes entries.now) }
+    ensures put { OnOk result (out.new.items ≡ out.old.items ++ entries_bytes entries.now) }
+    ensures fits { OnOk result (AreEntries entries.now) }
 {
     put_size(out, entries.len())?;
     for entry in entries {

@@ -1,8 +1,8 @@
 // The fields of which all else is made: numbers and bytes.
-ghost use Rattle.std.specs.Prelude.{◌≡◌, ◌++◌, ◌∷◌, [], OnOk};
+ghost use Rattle.std.specs.Prelude.{◌≡◌, ◌++◌, ◌∷◌, [], ◌<◌, ◌^◌, IfSome, OnOk};
 ghost use Rattle.std.specs.Int.{w16, w32, w64};
-ghost use Rattle.entry_codec.specs.Parts.{flag_bytes, optional_bytes, signed_bytes, size_bytes};
-ghost use Rattle.entry_codec.specs.Parts.{text_bytes, u16_bytes, u32_bytes, u64_bytes};
+ghost use Rattle.entry_codec.specs.Parts.{IsText, flag_bytes, optional_bytes, signed_bytes};
+ghost use Rattle.entry_codec.specs.Parts.{size_bytes, text_bytes, u16_bytes, u32_bytes, u64_bytes};
 ghost use Rattle.entry_codec.specs.Reading.{Gives, byte_at, flag_at, number_at, optional_at};
 ghost use Rattle.entry_codec.specs.Reading.{signed_at, size_at, text_at};
 
@@ -69,7 +69,8 @@ pub(crate) fn put_size(out: &mut Vec<u8, Heap>, size: usize) -> Result<(), Alloc
 }
 
 pub(crate) fn put_text(out: &mut Vec<u8, Heap>, text: &[u8]) -> Result<(), AllocError>
-    ensures { OnOk result (out.new.items ≡ out.old.items ++ text_bytes text.now) }
+    ensures put { OnOk result (out.new.items ≡ out.old.items ++ text_bytes text.now) }
+    ensures fits { OnOk result (IsText text.now) }
 {
     put_size(out, text.len())?;
     out.extend_from_slice(text)?;
@@ -90,7 +91,8 @@ pub(crate) fn put_flag(out: &mut Vec<u8, Heap>, flag: bool) -> Result<(), AllocE
 
 #[tactic(auto, unfolding(crate::specs::Parts::optional_bytes))]
 pub(crate) fn put_optional(out: &mut Vec<u8, Heap>, number: Option<u32>) -> Result<(), AllocError>
-    ensures { OnOk result (out.new.items ≡ out.old.items ++ optional_bytes number) }
+    ensures put { OnOk result (out.new.items ≡ out.old.items ++ optional_bytes number) }
+    ensures fits { OnOk result (IfSome number (λ n. n < 2 ^ 32)) }
 {
     match number {
         None => {

@@ -1,8 +1,9 @@
 // Calls and operations, put behind what is there.
-ghost use Rattle.std.specs.Prelude.{◌≡◌, ◌++◌, ◌∷◌, [], OnOk};
-ghost use Rattle.entry_codec.specs.Calls.{call_bytes, op_bytes, special_number, space_number};
-ghost use Rattle.entry_codec.specs.Calls.{new_owner_bytes, whence_number};
-ghost use Rattle.entry_codec.specs.Parts.{signed_bytes, text_bytes, u16_bytes, u32_bytes};
+ghost use Rattle.std.specs.Prelude.{◌≡◌, ◌++◌, ◌∷◌, [], ◌<◌, ◌^◌, FitsSigned, OnOk};
+ghost use Rattle.std.specs.Int.{w64};
+ghost use Rattle.entry_codec.specs.Calls.{IsCall, IsNewOwner, IsOp, call_bytes, op_bytes};
+ghost use Rattle.entry_codec.specs.Calls.{new_owner_bytes, space_number, whence_number};
+ghost use Rattle.entry_codec.specs.Parts.{IsText, signed_bytes, text_bytes, u16_bytes, u32_bytes};
 
 use crate::numbers::*;
 use crate::parts::{put_byte, put_flag, put_signed, put_text, put_u32};
@@ -16,7 +17,8 @@ use std::alloc::AllocError;
 // ---- the number of a call, and fields of one form
 
 fn put_path(out: &mut Vec<u8, Heap>, number: u8, path: &Bytes) -> Result<(), AllocError>
-    ensures { OnOk result (out.new.items ≡ out.old.items ++ (number ∷ text_bytes path.now)) }
+    ensures put { OnOk result (out.new.items ≡ out.old.items ++ (number ∷ text_bytes path.now)) }
+    ensures fits { OnOk result (IsText path.now) }
 {
     put_byte(out, number)?;
     put_text(out, path.as_slice())
@@ -28,15 +30,17 @@ fn put_paths(
     old: &Bytes,
     new: &Bytes,
 ) -> Result<(), AllocError>
-    ensures { OnOk result (out.new.items
+    ensures put { OnOk result (out.new.items
         ≡ out.old.items ++ ((number ∷ text_bytes old.now) ++ text_bytes new.now)) }
+    ensures fits { OnOk result (IsText old.now × IsText new.now) }
 {
     put_path(out, number, old)?;
     put_text(out, new.as_slice())
 }
 
 fn put_fd(out: &mut Vec<u8, Heap>, number: u8, fd: Fd) -> Result<(), AllocError>
-    ensures { OnOk result (out.new.items ≡ out.old.items ++ (number ∷ u32_bytes fd)) }
+    ensures put { OnOk result (out.new.items ≡ out.old.items ++ (number ∷ u32_bytes fd)) }
+    ensures fits { OnOk result (fd < 2 ^ 32) }
 {
     put_byte(out, number)?;
     put_u32(out, fd.0)
@@ -48,8 +52,9 @@ fn put_fd_and_count(
     fd: Fd,
     count: u32,
 ) -> Result<(), AllocError>
-    ensures { OnOk result (out.new.items
+    ensures put { OnOk result (out.new.items
         ≡ out.old.items ++ ((number ∷ u32_bytes fd) ++ u32_bytes count)) }
+    ensures fits { OnOk result ((fd < 2 ^ 32) × (count < 2 ^ 32)) }
 {
     put_fd(out, number, fd)?;
     put_u32(out, count)
@@ -61,8 +66,9 @@ fn put_fd_and_bytes(
     fd: Fd,
     bytes: &Bytes,
 ) -> Result<(), AllocError>
-    ensures { OnOk result (out.new.items
+    ensures put { OnOk result (out.new.items
         ≡ out.old.items ++ ((number ∷ u32_bytes fd) ++ text_bytes bytes.now)) }
+    ensures fits { OnOk result ((fd < 2 ^ 32) × IsText bytes.now) }
 {
     put_fd(out, number, fd)?;
     put_text(out, bytes.as_slice())
@@ -71,24 +77,27 @@ fn put_fd_and_bytes(
 // ---- calls of a form of their own
 
 fn put_pread(out: &mut Vec<u8, Heap>, fd: Fd, count: u32, offset: i64) -> Result<(), AllocError>
-    ensures { OnOk result (out.new.items ≡ out.old.items
+    ensures put { OnOk result (out.new.items ≡ out.old.items
         ++ (((CALL_PREAD ∷ u32_bytes fd) ++ u32_bytes count) ++ signed_bytes offset)) }
+    ensures fits { OnOk result ((fd < 2 ^ 32) × (count < 2 ^ 32) × FitsSigned w64 offset) }
 {
     put_fd_and_count(out, CALL_PREAD, fd, count)?;
     put_signed(out, offset)
 }
 
 fn put_pwrite(out: &mut Vec<u8, Heap>, fd: Fd, bytes: &Bytes, offset: i64) -> Result<(), AllocError>
-    ensures { OnOk result (out.new.items ≡ out.old.items
+    ensures put { OnOk result (out.new.items ≡ out.old.items
         ++ (((CALL_PWRITE ∷ u32_bytes fd) ++ text_bytes bytes.now) ++ signed_bytes offset)) }
+    ensures fits { OnOk result ((fd < 2 ^ 32) × IsText bytes.now × FitsSigned w64 offset) }
 {
     put_fd_and_bytes(out, CALL_PWRITE, fd, bytes)?;
     put_signed(out, offset)
 }
 
 fn put_lseek(out: &mut Vec<u8, Heap>, fd: Fd, offset: i64, whence: Whence) -> Result<(), AllocError>
-    ensures { OnOk result (out.new.items ≡ out.old.items
+    ensures put { OnOk result (out.new.items ≡ out.old.items
         ++ (((CALL_LSEEK ∷ u32_bytes fd) ++ signed_bytes offset) ++ (whence_number whence ∷ []))) }
+    ensures fits { OnOk result ((fd < 2 ^ 32) × FitsSigned w64 offset) }
 {
     put_fd(out, CALL_LSEEK, fd)?;
     put_signed(out, offset)?;
@@ -102,9 +111,10 @@ fn put_fallocate(
     length: i64,
     space: Space,
 ) -> Result<(), AllocError>
-    ensures { OnOk result (out.new.items ≡ out.old.items
+    ensures put { OnOk result (out.new.items ≡ out.old.items
         ++ ((((CALL_FALLOCATE ∷ u32_bytes fd) ++ signed_bytes offset) ++ signed_bytes length)
         ++ (space_number space ∷ []))) }
+    ensures fits { OnOk result ((fd < 2 ^ 32) × FitsSigned w64 offset × FitsSigned w64 length) }
 {
     put_fd(out, CALL_FALLOCATE, fd)?;
     put_signed(out, offset)?;
@@ -113,8 +123,9 @@ fn put_fallocate(
 }
 
 fn put_truncate(out: &mut Vec<u8, Heap>, path: &Bytes, length: u32) -> Result<(), AllocError>
-    ensures { OnOk result (out.new.items
+    ensures put { OnOk result (out.new.items
         ≡ out.old.items ++ ((CALL_TRUNCATE ∷ text_bytes path.now) ++ u32_bytes length)) }
+    ensures fits { OnOk result (IsText path.now × (length < 2 ^ 32)) }
 {
     put_path(out, CALL_TRUNCATE, path)?;
     put_u32(out, length)
@@ -127,8 +138,9 @@ fn put_path_and_byte(
     path: &Bytes,
     byte: u8,
 ) -> Result<(), AllocError>
-    ensures { OnOk result (out.new.items
+    ensures put { OnOk result (out.new.items
         ≡ out.old.items ++ ((number ∷ text_bytes path.now) ++ (byte ∷ []))) }
+    ensures fits { OnOk result (IsText path.now × (byte < 256)) }
 {
     put_path(out, number, path)?;
     put_byte(out, byte)
@@ -139,32 +151,36 @@ fn put_chmod(
     path: &Bytes,
     permissions: Permissions,
 ) -> Result<(), AllocError>
-    ensures { OnOk result (out.new.items
+    ensures put { OnOk result (out.new.items
         ≡ out.old.items ++ ((CALL_CHMOD ∷ text_bytes path.now) ++ u16_bytes permissions)) }
+    ensures fits { OnOk result (IsText path.now × (permissions < 4096)) }
 {
     put_path(out, CALL_CHMOD, path)?;
     put_permissions(out, permissions)
 }
 
 fn put_chown(out: &mut Vec<u8, Heap>, path: &Bytes, owner: NewOwner) -> Result<(), AllocError>
-    ensures { OnOk result (out.new.items
+    ensures put { OnOk result (out.new.items
         ≡ out.old.items ++ ((CALL_CHOWN ∷ text_bytes path.now) ++ new_owner_bytes owner)) }
+    ensures fits { OnOk result (IsText path.now × IsNewOwner owner) }
 {
     put_path(out, CALL_CHOWN, path)?;
     put_new_owner(out, owner)
 }
 
 fn put_fchmod(out: &mut Vec<u8, Heap>, fd: Fd, permissions: Permissions) -> Result<(), AllocError>
-    ensures { OnOk result (out.new.items
+    ensures put { OnOk result (out.new.items
         ≡ out.old.items ++ ((CALL_FCHMOD ∷ u32_bytes fd) ++ u16_bytes permissions)) }
+    ensures fits { OnOk result ((fd < 2 ^ 32) × (permissions < 4096)) }
 {
     put_fd(out, CALL_FCHMOD, fd)?;
     put_permissions(out, permissions)
 }
 
 fn put_fchown(out: &mut Vec<u8, Heap>, fd: Fd, owner: NewOwner) -> Result<(), AllocError>
-    ensures { OnOk result (out.new.items
+    ensures put { OnOk result (out.new.items
         ≡ out.old.items ++ ((CALL_FCHOWN ∷ u32_bytes fd) ++ new_owner_bytes owner)) }
+    ensures fits { OnOk result ((fd < 2 ^ 32) × IsNewOwner owner) }
 {
     put_fd(out, CALL_FCHOWN, fd)?;
     put_new_owner(out, owner)
@@ -172,9 +188,10 @@ fn put_fchown(out: &mut Vec<u8, Heap>, fd: Fd, owner: NewOwner) -> Result<(), Al
 
 // ---- all calls, and operations
 
-#[tactic(auto, unfolding(crate::specs::Calls::call_bytes))]
+#[tactic(auto, unfolding(crate::specs::Calls::call_bytes, crate::specs::Calls::IsCall))]
 pub(crate) fn put_call(out: &mut Vec<u8, Heap>, call: &Call) -> Result<(), AllocError>
-    ensures { OnOk result (out.new.items ≡ out.old.items ++ call_bytes call.now) }
+    ensures put { OnOk result (out.new.items ≡ out.old.items ++ call_bytes call.now) }
+    ensures fits { OnOk result (IsCall call.now) }
 {
     match call {
         Call::Open(path, flags) => put_path_and_byte(out, CALL_OPEN, path, flags.bits()),
@@ -216,9 +233,10 @@ pub(crate) fn put_call(out: &mut Vec<u8, Heap>, call: &Call) -> Result<(), Alloc
     }
 }
 
-#[tactic(auto, unfolding(crate::specs::Calls::op_bytes))]
+#[tactic(auto, unfolding(crate::specs::Calls::op_bytes, crate::specs::Calls::IsOp))]
 pub(crate) fn put_op(out: &mut Vec<u8, Heap>, op: &Op) -> Result<(), AllocError>
-    ensures { OnOk result (out.new.items ≡ out.old.items ++ op_bytes op.now) }
+    ensures put { OnOk result (out.new.items ≡ out.old.items ++ op_bytes op.now) }
+    ensures fits { OnOk result (IsOp op.now) }
 {
     match op {
         Op::Call(call) => {

@@ -1,6 +1,6 @@
 // Replies: put behind what is there, and read at the front of bytes.
 ghost use Rattle.std.specs.Prelude.{◌≡◌, ◌++◌, OnOk};
-ghost use Rattle.entry_codec.specs.Replies.{reply_bytes};
+ghost use Rattle.entry_codec.specs.Replies.{IsReply, reply_bytes};
 ghost use Rattle.entry_codec.specs.Reading.{Gives};
 ghost use Rattle.entry_codec.specs.ReadingReplies.{reply_at};
 
@@ -14,9 +14,10 @@ use heap::Heap;
 use ids::Reply;
 use std::alloc::AllocError;
 
-#[tactic(auto, unfolding(crate::specs::Replies::reply_bytes))]
+#[tactic(auto, unfolding(crate::specs::Replies::reply_bytes, crate::specs::Replies::IsReply))]
 pub(crate) fn put_reply(out: &mut Vec<u8, Heap>, reply: &Reply) -> Result<(), AllocError>
-    ensures { OnOk result (out.new.items ≡ out.old.items ++ reply_bytes reply.now) }
+    ensures put { OnOk result (out.new.items ≡ out.old.items ++ reply_bytes reply.now) }
+    ensures fits { OnOk result (IsReply reply.now) }
 {
     match reply {
         Reply::Answer(answer) => {

@@ -1,8 +1,8 @@
 // Permissions and owners, and how things are opened and begun.
-ghost use Rattle.std.specs.Prelude.{◌≡◌, ◌++◌, ◌∷◌, [], OnOk};
-ghost use Rattle.entry_codec.specs.Calls.{new_owner_bytes};
+ghost use Rattle.std.specs.Prelude.{◌≡◌, ◌++◌, ◌∷◌, [], ◌<◌, OnOk};
+ghost use Rattle.entry_codec.specs.Calls.{IsNewOwner, new_owner_bytes};
 ghost use Rattle.entry_codec.specs.Parts.{u16_bytes};
-ghost use Rattle.entry_codec.specs.Replies.{rights_bytes};
+ghost use Rattle.entry_codec.specs.Replies.{IsRights, rights_bytes};
 ghost use Rattle.entry_codec.specs.Reading.{Gives, permissions_at};
 ghost use Rattle.entry_codec.specs.ReadingCalls.{begin_flags_at, new_owner_at, open_flags_at};
 ghost use Rattle.entry_codec.specs.ReadingReplies.{rights_at};
@@ -32,7 +32,8 @@ pub(crate) fn put_permissions(
     out: &mut Vec<u8, Heap>,
     permissions: Permissions,
 ) -> Result<(), AllocError>
-    ensures { OnOk result (out.new.items ≡ out.old.items ++ u16_bytes permissions) }
+    ensures put { OnOk result (out.new.items ≡ out.old.items ++ u16_bytes permissions) }
+    ensures fits { OnOk result (permissions < 4096) }
 {
     put_u16(out, permissions.bits())
 }
@@ -48,7 +49,8 @@ pub(crate) fn permissions_of(bytes: &[u8]) -> Result<(Permissions, &[u8]), ReadE
 }
 
 pub(crate) fn put_new_owner(out: &mut Vec<u8, Heap>, owner: NewOwner) -> Result<(), AllocError>
-    ensures { OnOk result (out.new.items ≡ out.old.items ++ new_owner_bytes owner) }
+    ensures put { OnOk result (out.new.items ≡ out.old.items ++ new_owner_bytes owner) }
+    ensures fits { OnOk result (IsNewOwner owner) }
 {
     put_optional(out, owner.user)?;
     put_optional(out, owner.group)
@@ -64,7 +66,8 @@ pub(crate) fn new_owner_of(bytes: &[u8]) -> Result<(NewOwner, &[u8]), ReadError>
 }
 
 pub(crate) fn put_rights(out: &mut Vec<u8, Heap>, rights: Rights) -> Result<(), AllocError>
-    ensures { OnOk result (out.new.items ≡ out.old.items ++ rights_bytes rights) }
+    ensures put { OnOk result (out.new.items ≡ out.old.items ++ rights_bytes rights) }
+    ensures fits { OnOk result (IsRights rights) }
 {
     put_permissions(out, rights.permissions)?;
     put_u32(out, rights.owner.user)?;

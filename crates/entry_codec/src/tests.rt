@@ -7,6 +7,18 @@ use ids::*;
 use std::alloc::AllocError;
 use std::test::Fail;
 
+// How many calls there are without a path or contents, with one, and with two.
+const BARE: u8 = 20;
+
+const WITH_TEXT: u8 = 15;
+
+const WITH_TEXTS: u8 = 4;
+
+const ASPECTS: u8 = 11;
+
+// How many replies there are without an aspect.
+const REPLIES: u8 = 17;
+
 fn entry_with(heap: Heap, op: Op, reply: Reply) -> Result<Entry, AllocError> {
     let mut chosen = Nums::new(heap);
     chosen.push(Num(7))?;
@@ -21,77 +33,116 @@ fn entry_with(heap: Heap, op: Op, reply: Reply) -> Result<Entry, AllocError> {
     })
 }
 
-fn bytes_in(heap: Heap, bytes: &[u8]) -> Result<Bytes, AllocError> {
-    Bytes::copy(heap, bytes)
+// The bytes of an entry, and one more.
+fn with_one_more(heap: Heap, entry: &Entry) -> Result<Vec<u8, Heap>, AllocError> {
+    let mut out = Vec::new(heap);
+    put_entry(entry, &mut out)?;
+    out.push(0)?;
+    Ok(out)
 }
 
 // How many bytes an entry takes, where it is read as it was written with more behind it, and else 0.
 fn length_there_and_back(heap: Heap, entry: &Entry) -> Result<usize, AllocError> {
-    let mut out = Vec::new(heap);
-    put_entry(entry, &mut out)?;
-    let length = out.len();
-    out.push(0)?;
+    let out = with_one_more(heap, entry)?;
     match read_entry(heap, out.as_slice()) {
-        Ok((read, taken)) if taken == length => {
-            let mut again = Vec::new(heap);
-            put_entry(&read, &mut again)?;
-            again.push(0)?;
-            let is_same = again.as_slice() == out.as_slice();
-            Ok(if is_same { length } else { 0 })
+        Ok((read, taken)) => {
+            let again = with_one_more(heap, &read)?;
+            let is_same = again.as_slice() == out.as_slice() && taken == out.len().saturating_sub(1);
+            Ok(if is_same { taken } else { 0 })
         }
-        _ => Ok(0),
+        Err(_) => Ok(0),
     }
 }
 
-// One of each call. Its paths and contents have 300 bytes each.
-fn calls(heap: Heap, text: &Bytes) -> Result<Vec<(Call, usize), Heap>, AllocError> {
-    let mut all = Vec::new(heap);
-    let mode = Permissions::new(0o7777).unwrap_or(Rights::first(None).permissions);
-    let owner = NewOwner {
+// Whether the entry of a call is read as it was written, and takes at most 64 bytes besides so many of
+// its paths and contents.
+fn is_there_and_back(heap: Heap, call: Call, content: usize) -> Result<bool, AllocError> {
+    let reply = Reply::Answer(Answer::Pair(Fd(u32::MAX), Fd(0)));
+    let length = length_there_and_back(heap, &entry_with(heap, Op::Call(call), reply)?)?;
+    Ok(0 < length && length.saturating_sub(content) <= 64)
+}
+
+fn every_bit() -> Permissions {
+    Permissions::new(0o7777).unwrap_or(Rights::first(None).permissions)
+}
+
+fn one_owner() -> NewOwner {
+    NewOwner {
         user: Some(u32::MAX),
         group: None,
-    };
+    }
+}
+
+fn bare_call(number: u8) -> Call {
     let fd = Fd(u32::MAX);
-    all.push((Call::Open(text.try_clone()?, OpenFlags::all()), 300))?;
-    all.push((Call::Close(fd), 0))?;
-    all.push((Call::Read(fd, u32::MAX), 0))?;
-    all.push((Call::Pread(fd, 1, i64::MIN), 0))?;
-    all.push((Call::Write(fd, text.try_clone()?), 300))?;
-    all.push((Call::Pwrite(fd, text.try_clone()?, i64::MAX), 300))?;
-    all.push((Call::Lseek(fd, -1, Whence::Set), 0))?;
-    all.push((Call::Lseek(fd, -1, Whence::Cur), 0))?;
-    all.push((Call::Lseek(fd, -1, Whence::End), 0))?;
-    all.push((Call::Lseek(fd, -1, Whence::Data), 0))?;
-    all.push((Call::Lseek(fd, -1, Whence::Hole), 0))?;
-    all.push((Call::Ftruncate(fd, 5), 0))?;
-    all.push((Call::Truncate(text.try_clone()?, 5), 300))?;
-    all.push((Call::Fallocate(fd, -1, 1, Space::Grow), 0))?;
-    all.push((Call::Fallocate(fd, -1, 1, Space::Keep), 0))?;
-    all.push((Call::Fallocate(fd, -1, 1, Space::Punch), 0))?;
-    all.push((Call::Stat(text.try_clone()?), 300))?;
-    all.push((Call::Fstat(fd), 0))?;
-    all.push((Call::Link(text.try_clone()?, text.try_clone()?), 600))?;
-    all.push((Call::Unlink(text.try_clone()?), 300))?;
-    all.push((Call::Rename(text.try_clone()?, text.try_clone()?), 600))?;
-    all.push((Call::Exchange(text.try_clone()?, text.try_clone()?), 600))?;
-    all.push((Call::Mkdir(text.try_clone()?), 300))?;
-    all.push((Call::Rmdir(text.try_clone()?), 300))?;
-    all.push((Call::List(text.try_clone()?), 300))?;
-    all.push((Call::Symlink(text.try_clone()?, text.try_clone()?), 600))?;
-    all.push((Call::Readlink(text.try_clone()?), 300))?;
-    all.push((Call::Lstat(text.try_clone()?), 300))?;
-    all.push((Call::Mknod(text.try_clone()?, Special::Fifo), 300))?;
-    all.push((Call::Mknod(text.try_clone()?, Special::Socket), 300))?;
-    all.push((Call::Chmod(text.try_clone()?, mode), 300))?;
-    all.push((Call::Chown(text.try_clone()?, owner), 300))?;
-    all.push((Call::Fchmod(fd, mode), 0))?;
-    all.push((Call::Fchown(fd, owner), 0))?;
-    all.push((Call::Dup(fd), 0))?;
-    all.push((Call::Dup2(fd, Fd(1)), 0))?;
-    all.push((Call::Pipe, 0))?;
-    all.push((Call::Fork, 0))?;
-    all.push((Call::Exit, 0))?;
-    Ok(all)
+    match number {
+        0 => Call::Close(fd),
+        1 => Call::Read(fd, u32::MAX),
+        2 => Call::Pread(fd, 1, i64::MIN),
+        3 => Call::Lseek(fd, -1, Whence::Set),
+        4 => Call::Lseek(fd, -1, Whence::Cur),
+        5 => Call::Lseek(fd, -1, Whence::End),
+        6 => Call::Lseek(fd, -1, Whence::Data),
+        7 => Call::Lseek(fd, -1, Whence::Hole),
+        8 => Call::Ftruncate(fd, 5),
+        9 => Call::Fallocate(fd, -1, 1, Space::Grow),
+        10 => Call::Fallocate(fd, -1, 1, Space::Keep),
+        11 => Call::Fallocate(fd, -1, 1, Space::Punch),
+        12 => Call::Fstat(fd),
+        13 => Call::Fchmod(fd, every_bit()),
+        14 => Call::Fchown(fd, one_owner()),
+        15 => Call::Dup(fd),
+        16 => Call::Dup2(fd, Fd(1)),
+        17 => Call::Pipe,
+        18 => Call::Fork,
+        _ => Call::Exit,
+    }
+}
+
+fn call_with_text(number: u8, text: Bytes) -> Call {
+    match number {
+        0 => Call::Open(text, OpenFlags::all()),
+        1 => Call::Write(Fd(1), text),
+        2 => Call::Pwrite(Fd(1), text, i64::MAX),
+        3 => Call::Truncate(text, 5),
+        4 => Call::Stat(text),
+        5 => Call::Unlink(text),
+        6 => Call::Mkdir(text),
+        7 => Call::Rmdir(text),
+        8 => Call::List(text),
+        9 => Call::Readlink(text),
+        10 => Call::Lstat(text),
+        11 => Call::Mknod(text, Special::Fifo),
+        12 => Call::Mknod(text, Special::Socket),
+        13 => Call::Chmod(text, every_bit()),
+        _ => Call::Chown(text, one_owner()),
+    }
+}
+
+fn call_with_texts(number: u8, text: Bytes, other: Bytes) -> Call {
+    match number {
+        0 => Call::Link(text, other),
+        1 => Call::Rename(text, other),
+        2 => Call::Exchange(text, other),
+        _ => Call::Symlink(text, other),
+    }
+}
+
+fn aspect(heap: Heap, number: u8) -> Result<Aspect, AllocError> {
+    let num = Num(usize::MAX);
+    Ok(match number {
+        0 => Aspect::Entry(num, Name::copy(heap, b"a")?),
+        1 => Aspect::Names(num),
+        2 => Aspect::Size(num),
+        3 => Aspect::Block(num, 5),
+        4 => Aspect::Links(num),
+        5 => Aspect::Ends(num),
+        6 => Aspect::Offset(num),
+        7 => Aspect::Front(num),
+        8 => Aspect::Back(num),
+        9 => Aspect::Target(num),
+        _ => Aspect::Rights(num),
+    })
 }
 
 fn cause(aspect: Aspect, write: bool) -> Cause {
@@ -101,78 +152,62 @@ fn cause(aspect: Aspect, write: bool) -> Cause {
     }
 }
 
-fn aspects(heap: Heap) -> Result<Vec<Aspect, Heap>, AllocError> {
-    let num = Num(usize::MAX);
-    let mut all = Vec::new(heap);
-    all.push(Aspect::Entry(num, Name::copy(heap, b"a")?))?;
-    all.push(Aspect::Names(num))?;
-    all.push(Aspect::Size(num))?;
-    all.push(Aspect::Block(num, 5))?;
-    all.push(Aspect::Links(num))?;
-    all.push(Aspect::Ends(num))?;
-    all.push(Aspect::Offset(num))?;
-    all.push(Aspect::Front(num))?;
-    all.push(Aspect::Back(num))?;
-    all.push(Aspect::Target(num))?;
-    all.push(Aspect::Rights(num))?;
-    Ok(all)
-}
-
-fn stat_of(kind: Kind) -> Reply {
-    Reply::Answer(Answer::Stat(Stat {
+fn stat_of(kind: Kind) -> Answer {
+    Answer::Stat(Stat {
         kind,
         num: Num(usize::MAX),
         size: u32::MAX,
         links: u32::MAX,
         rights: Rights::first(None),
-    }))
+    })
 }
 
-fn replies(heap: Heap) -> Result<Vec<Reply, Heap>, AllocError> {
-    let mut all = Vec::new(heap);
+fn two_names(heap: Heap) -> Result<NameList, AllocError> {
     let mut names = Vec::new(heap);
     names.push(Name::copy(heap, b"a")?)?;
     names.push(Name::copy(heap, b"")?)?;
-    all.push(Reply::Answer(Answer::Done))?;
-    all.push(Reply::Answer(Answer::Fd(Fd(u32::MAX))))?;
-    all.push(Reply::Answer(Answer::Count(u32::MAX)))?;
-    all.push(Reply::Answer(Answer::Place(u32::MAX)))?;
-    all.push(Reply::Answer(Answer::Bytes(bytes_in(heap, b"abc")?)))?;
-    all.push(Reply::Answer(Answer::Pair(Fd(1), Fd(2))))?;
-    for kind in [
-        Kind::File,
-        Kind::Dir,
-        Kind::Pipe,
-        Kind::Link,
-        Kind::Fifo,
-        Kind::Socket,
-    ] {
-        all.push(stat_of(kind))?;
-    }
-    all.push(Reply::Answer(Answer::Names(NameList::new(names))))?;
-    all.push(Reply::Answer(Answer::Child(Pid(4))))?;
-    all.push(Reply::Begun)?;
-    all.push(Reply::Committed)?;
-    all.push(Reply::GivenUp { restarted: true })?;
-    all.push(Reply::Aborted {
-        why: Why::Unsupported,
-        restarted: false,
-    })?;
-    for aspect in aspects(heap)? {
-        let other = aspect.try_clone()?;
-        all.push(Reply::Busy(cause(aspect, true)))?;
-        all.push(Reply::Aborted {
-            why: Why::Clash(cause(other, false)),
-            restarted: true,
-        })?;
-    }
-    all.push(Reply::InTransaction)?;
-    all.push(Reply::NotInTransaction)?;
-    all.push(Reply::HistoryFull)?;
-    all.push(Reply::NoMemory)?;
-    all.push(Reply::NoProcess)?;
-    Ok(all)
+    Ok(NameList::new(names))
 }
+
+fn reply(heap: Heap, number: u8) -> Result<Reply, AllocError> {
+    Ok(match number {
+        0 => Reply::Answer(Answer::Done),
+        1 => Reply::Answer(Answer::Fd(Fd(u32::MAX))),
+        2 => Reply::Answer(Answer::Count(u32::MAX)),
+        3 => Reply::Answer(Answer::Place(u32::MAX)),
+        4 => Reply::Answer(Answer::Bytes(Bytes::copy(heap, b"abc")?)),
+        5 => Reply::Answer(Answer::Names(two_names(heap)?)),
+        6 => Reply::Answer(Answer::Child(Pid(4))),
+        7 => Reply::Answer(Answer::Pair(Fd(1), Fd(2))),
+        8 => Reply::Begun,
+        9 => Reply::Committed,
+        10 => Reply::GivenUp { restarted: true },
+        11 => Reply::Aborted {
+            why: Why::Unsupported,
+            restarted: false,
+        },
+        12 => Reply::InTransaction,
+        13 => Reply::NotInTransaction,
+        14 => Reply::HistoryFull,
+        15 => Reply::NoMemory,
+        _ => Reply::NoProcess,
+    })
+}
+
+// Whether the entry of a reply is read as it was written, and takes at most 64 bytes.
+fn is_small(heap: Heap, op: Op, reply: Reply) -> Result<bool, AllocError> {
+    let length = length_there_and_back(heap, &entry_with(heap, op, reply)?)?;
+    Ok(0 < length && length <= 64)
+}
+
+const KINDS: [Kind; 6] = [
+    Kind::File,
+    Kind::Dir,
+    Kind::Pipe,
+    Kind::Link,
+    Kind::Fifo,
+    Kind::Socket,
+];
 
 const ERRNOS: [Errno; 18] = [
     Errno::EAGAIN,
@@ -204,36 +239,62 @@ const REFUSED: &[u8; 37] =
     b"\x03\0\0\0\x00\x05\x05\0\0\0\x02xy\xfe\xff\xff\xff\xff\xff\xff\xff\x01\x05\x01\x07\0\0\0\0\0\0\0\x01\x02\0\0\0";
 
 fn renamed(heap: Heap) -> Result<Entry, AllocError> {
-    let call = Call::Rename(bytes_in(heap, b"a")?, bytes_in(heap, b"b")?);
+    let call = Call::Rename(Bytes::copy(heap, b"a")?, Bytes::copy(heap, b"b")?);
     entry_with(heap, Op::Call(call), Reply::Answer(Answer::Done))
 }
 
 fn refused(heap: Heap) -> Result<Entry, AllocError> {
-    let call = Call::Pwrite(Fd(5), bytes_in(heap, b"xy")?, -2);
+    let call = Call::Pwrite(Fd(5), Bytes::copy(heap, b"xy")?, -2);
     entry_with(heap, Op::Call(call), Reply::Errno(Errno::EINVAL))
+}
+
+fn both(heap: Heap) -> Result<Vec<Entry, Heap>, AllocError> {
+    let mut entries = Vec::new(heap);
+    entries.push(renamed(heap)?)?;
+    entries.push(refused(heap)?)?;
+    Ok(entries)
+}
+
+fn record(heap: Heap) -> Result<Vec<u8, Heap>, AllocError> {
+    let mut out = Vec::new(heap);
+    put_entries(both(heap)?.as_slice(), &mut out)?;
+    Ok(out)
+}
+
+fn bytes_of(heap: Heap, entry: &Entry) -> Result<Vec<u8, Heap>, AllocError> {
+    let mut out = Vec::new(heap);
+    put_entry(entry, &mut out)?;
+    Ok(out)
 }
 
 #[test]
 fn bytes_by_hand(rt: HostRuntime) -> Result<(), Fail> {
     let heap = heap::open(rt.alloc())?;
-    let mut out = Vec::new(heap);
-    put_entry(&renamed(heap)?, &mut out)?;
-    assert!(rt; out.as_slice() == RENAMED.as_slice());
-    let mut out = Vec::new(heap);
-    put_entry(&refused(heap)?, &mut out)?;
-    assert!(rt; out.as_slice() == REFUSED.as_slice());
+    assert!(rt; bytes_of(heap, &renamed(heap)?)?.as_slice() == RENAMED.as_slice());
+    assert!(rt; bytes_of(heap, &refused(heap)?)?.as_slice() == REFUSED.as_slice());
     Ok(())
 }
 
 #[test]
-fn each_call_there_and_back(rt: HostRuntime) -> Result<(), Fail> {
+fn each_bare_call_there_and_back(rt: HostRuntime) -> Result<(), Fail> {
     let heap = heap::open(rt.alloc())?;
-    let text = bytes_in(heap, &[b'a'; 300])?;
-    for (call, content) in calls(heap, &text)? {
-        let reply = Reply::Answer(Answer::Pair(Fd(u32::MAX), Fd(0)));
-        let length = length_there_and_back(heap, &entry_with(heap, Op::Call(call), reply)?)?;
-        assert!(rt; 0 < length);
-        assert!(rt; length <= content + 64);
+    for number in 0..BARE {
+        assert!(rt; is_there_and_back(heap, bare_call(number), 0)?);
+    }
+    Ok(())
+}
+
+#[test]
+fn each_call_with_text_there_and_back(rt: HostRuntime) -> Result<(), Fail> {
+    let heap = heap::open(rt.alloc())?;
+    let text = Bytes::copy(heap, &[b'a'; 300])?;
+    for number in 0..WITH_TEXT {
+        let call = call_with_text(number, text.try_clone()?);
+        assert!(rt; is_there_and_back(heap, call, 300)?);
+    }
+    for number in 0..WITH_TEXTS {
+        let call = call_with_texts(number, text.try_clone()?, Bytes::copy(heap, b"b")?);
+        assert!(rt; is_there_and_back(heap, call, 301)?);
     }
     Ok(())
 }
@@ -241,19 +302,32 @@ fn each_call_there_and_back(rt: HostRuntime) -> Result<(), Fail> {
 #[test]
 fn each_reply_there_and_back(rt: HostRuntime) -> Result<(), Fail> {
     let heap = heap::open(rt.alloc())?;
-    for reply in replies(heap)? {
-        let length = length_there_and_back(heap, &entry_with(heap, Op::End, reply)?)?;
-        assert!(rt; 0 < length);
-        assert!(rt; length <= 64);
+    for number in 0..REPLIES {
+        assert!(rt; is_small(heap, Op::End, reply(heap, number)?)?);
+    }
+    for kind in KINDS {
+        assert!(rt; is_small(heap, Op::End, Reply::Answer(stat_of(kind)))?);
     }
     for errno in ERRNOS {
         let op = Op::Abort { no_restart: true };
-        let entry = entry_with(heap, op, Reply::Errno(errno))?;
-        assert!(rt; 0 < length_there_and_back(heap, &entry)?);
+        assert!(rt; is_small(heap, op, Reply::Errno(errno))?);
     }
-    let begin = Op::Begin(BeginFlags::all());
-    let begun = entry_with(heap, begin, Reply::Begun)?;
-    assert!(rt; 0 < length_there_and_back(heap, &begun)?);
+    Ok(())
+}
+
+#[test]
+fn each_cause_there_and_back(rt: HostRuntime) -> Result<(), Fail> {
+    let heap = heap::open(rt.alloc())?;
+    for number in 0..ASPECTS {
+        let busy = Reply::Busy(cause(aspect(heap, number)?, true));
+        let begin = Op::Begin(BeginFlags::all());
+        assert!(rt; is_small(heap, begin, busy)?);
+        let aborted = Reply::Aborted {
+            why: Why::Clash(cause(aspect(heap, number)?, false)),
+            restarted: true,
+        };
+        assert!(rt; is_small(heap, Op::End, aborted)?);
+    }
     Ok(())
 }
 
@@ -269,15 +343,6 @@ fn a_small_call_takes_few_bytes(rt: HostRuntime) -> Result<(), Fail> {
     };
     assert_eq!(rt; length_there_and_back(heap, &closed)?, 14);
     Ok(())
-}
-
-fn record(heap: Heap) -> Result<Vec<u8, Heap>, AllocError> {
-    let mut entries = Vec::new(heap);
-    entries.push(renamed(heap)?)?;
-    entries.push(refused(heap)?)?;
-    let mut out = Vec::new(heap);
-    put_entries(entries.as_slice(), &mut out)?;
-    Ok(out)
 }
 
 fn is_short(read: Result<Vec<Entry, Heap>, ReadError>) -> bool {
@@ -300,40 +365,37 @@ fn each_beginning_is_refused(rt: HostRuntime) -> Result<(), Fail> {
     Ok(())
 }
 
-// The fault of an entry.
-fn fault_of(heap: Heap, bytes: &[u8]) -> Option<Fault> {
+// Whether this is what is wrong with an entry, where so many bytes are left.
+fn is_fault(heap: Heap, bytes: &[u8], wrong: Wrong, left: usize) -> bool {
     match read_entry(heap, bytes) {
-        Err(ReadError::Fault(fault)) => Some(fault),
-        _ => None,
+        Err(ReadError::Fault(fault)) => fault == Fault { wrong, left },
+        _ => false,
     }
-}
-
-fn fault(wrong: Wrong, left: usize) -> Option<Fault> {
-    Some(Fault { wrong, left })
 }
 
 #[test]
 fn a_fault_says_its_place(rt: HostRuntime) -> Result<(), Fail> {
     let heap = heap::open(rt.alloc())?;
     // a call and a reply of numbers that are given to none
-    let call = b"\x03\0\0\0\x00\x20\x01a";
-    assert!(rt; fault_of(heap, call) == fault(Wrong::Variant, 2));
-    let reply = b"\x03\0\0\0\x00\x1f\x0c\0\0";
-    assert!(rt; fault_of(heap, reply) == fault(Wrong::Variant, 2));
+    assert!(rt; is_fault(heap, b"\x03\0\0\0\x00\x20\x01a", Wrong::Variant, 2));
+    assert!(rt; is_fault(heap, b"\x03\0\0\0\x00\x1f\x0c\0\0", Wrong::Variant, 2));
     // chmod of the path `a` with a bit too many
-    let mode = b"\x03\0\0\0\x00\x17\x01a\xff\x10";
-    assert!(rt; fault_of(heap, mode) == fault(Wrong::Range, 0));
-    // an end that is given up without being begun anew or not
-    let abort = b"\x03\0\0\0\x03\x02";
-    assert!(rt; fault_of(heap, abort) == fault(Wrong::Flag, 0));
+    assert!(rt; is_fault(heap, b"\x03\0\0\0\x00\x17\x01a\xff\x10", Wrong::Range, 0));
+    // a transaction that is given up, and neither begun anew nor not
+    assert!(rt; is_fault(heap, b"\x03\0\0\0\x03\x02", Wrong::Flag, 0));
+    Ok(())
+}
+
+#[test]
+fn a_record_ends_with_its_last_entry(rt: HostRuntime) -> Result<(), Fail> {
+    let heap = heap::open(rt.alloc())?;
     let mut longer = record(heap)?;
     longer.push(0)?;
-    match read_entries(heap, longer.as_slice()) {
-        Err(ReadError::Fault(found)) => {
-            assert!(rt; Some(found) == fault(Wrong::Trailing, 1));
-        }
-        _ => assert!(rt; false),
-    }
+    let is_refused = match read_entries(heap, longer.as_slice()) {
+        Err(ReadError::Fault(fault)) => fault.wrong == Wrong::Trailing && fault.left == 1,
+        _ => false,
+    };
+    assert!(rt; is_refused);
     Ok(())
 }
 
@@ -346,8 +408,8 @@ fn a_length_asks_for_no_memory(rt: HostRuntime) -> Result<(), Fail> {
     // 2^32 - 1 entries
     let many = b"\xff\xff\xff\xff\xff\0\0\0\0";
     heap.refuse(1);
-    assert!(rt; fault_of(heap, long) == fault(Wrong::Short, 3));
-    assert!(rt; fault_of(heap, wide) == fault(Wrong::Long, 3));
+    assert!(rt; is_fault(heap, long, Wrong::Short, 3));
+    assert!(rt; is_fault(heap, wide, Wrong::Long, 3));
     assert!(rt; is_short(read_entries(heap, many)));
     heap.refuse(0);
     Ok(())
@@ -366,9 +428,7 @@ fn is_whole(heap: Heap, entries: &[Entry], number: u64) -> Result<bool, AllocErr
 #[test]
 fn refused_memory_leaves_what_was_there(rt: HostRuntime) -> Result<(), Fail> {
     let heap = heap::open(rt.alloc())?;
-    let mut entries = Vec::new(heap);
-    entries.push(renamed(heap)?)?;
-    entries.push(refused(heap)?)?;
+    let entries = both(heap)?;
     for number in 1..12 {
         assert!(rt; is_whole(heap, entries.as_slice(), number)?);
     }
