@@ -4,4 +4,5 @@ pub mod Formats
 pub mod FrontForms
 pub mod Loop
 pub mod PartForms
+pub mod Putting
 pub mod ReplyForms
