@@ -11,8 +11,8 @@ use heap::Heap;
 use ids::Entry;
 use std::alloc::AllocError;
 
-/// Puts the bytes of an entry behind what is there. Where memory is refused, `out` is as before; as
-/// much as the entry's bytes is asked for besides.
+/// Puts the bytes of an entry behind what is there. Where memory is refused, which is the one error,
+/// `out` is as before; as much as the entry's bytes is asked for besides.
 pub fn put_entry(entry: &Entry, out: &mut Vec<u8, Heap>) -> Result<(), AllocError>
     ensures ok { OnOk result (out.new.items ≡ out.old.items ++ entry_bytes entry.now) }
     ensures err { OnErr result (out.new.items ≡ out.old.items) }
@@ -25,8 +25,8 @@ pub fn put_entry(entry: &Entry, out: &mut Vec<u8, Heap>) -> Result<(), AllocErro
     Ok(())
 }
 
-/// Puts a record behind what is there: how many entries it has, and each. Where memory is
-/// refused, `out` is as before; as much as the record's bytes is asked for besides.
+/// Puts a record behind what is there: how many entries it has, and each. Where memory is refused,
+/// which is the one error, `out` is as before; as much as the record's bytes is asked for besides.
 pub fn put_entries(entries: &[Entry], out: &mut Vec<u8, Heap>) -> Result<(), AllocError>
     ensures ok { OnOk result (out.new.items ≡ out.old.items ++ entries_bytes entries.now) }
     ensures err { OnErr result (out.new.items ≡ out.old.items) }
@@ -40,8 +40,9 @@ pub fn put_entries(entries: &[Entry], out: &mut Vec<u8, Heap>) -> Result<(), All
 }
 
 /// The entry at the front of the bytes, and how many bytes it takes. What stands behind is not
-/// looked at. The first fault from the left, where no entry is at the front; memory is asked for
-/// only for bytes that are there.
+/// looked at. [`ReadError::Fault`] tells the first fault from the left, where no entry is at the
+/// front, and [`ReadError::NoMemory`] that memory was refused. It is asked for only for bytes that
+/// are there.
 pub fn read_entry(heap: Heap, bytes: &[u8]) -> Result<(Entry, usize), ReadError>
     // What is read is what the bytes are the form of.
     ensures found { IfOk result (λ x. IsEntry x.0 × (x.1 ≡ length (entry_bytes x.0))
@@ -58,8 +59,9 @@ pub fn read_entry(heap: Heap, bytes: &[u8]) -> Result<(Entry, usize), ReadError>
     }
 }
 
-/// The entries of a record, which is all of the bytes. The first fault from the left, where the bytes
-/// are none; memory is asked for only for bytes that are there.
+/// The entries of a record, which is all of the bytes. [`ReadError::Fault`] tells the first fault from
+/// the left, where the bytes are no record, and [`ReadError::NoMemory`] that memory was refused. It is
+/// asked for only for bytes that are there.
 pub fn read_entries(heap: Heap, bytes: &[u8]) -> Result<Vec<Entry, Heap>, ReadError>
     // What is read is what the bytes are the form of.
     ensures found { IfOk result (λ v. AreEntries v.items × (bytes.now ≡ entries_bytes v.items)) }

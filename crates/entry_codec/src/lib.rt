@@ -2,8 +2,8 @@
 //! entries that are kept together: those of a plain call, or of a committed transaction.
 //!
 //! [`put_entries`] writes a record and [`read_entries`] reads it; [`put_entry`] and [`read_entry`] do so
-//! for one entry. Contracts say both exactly: what is read is what the bytes are
-//! the form of, and what was written is read, whatever stands behind it.
+//! for one entry. Contracts say both exactly: what is read is what the bytes are the form of, and what
+//! was written is read, whatever stands behind an entry.
 #![tactic(auto)]
 
 mod answers;

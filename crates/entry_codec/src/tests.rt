@@ -47,7 +47,8 @@ fn length_there_and_back(heap: Heap, entry: &Entry) -> Result<usize, AllocError>
     match read_entry(heap, out.as_slice()) {
         Ok((read, taken)) => {
             let again = with_one_more(heap, &read)?;
-            let is_same = again.as_slice() == out.as_slice() && taken == out.len().saturating_sub(1);
+            let is_same = again.as_slice() == out.as_slice()
+                && taken == out.len().saturating_sub(1);
             Ok(if is_same { taken } else { 0 })
         }
         Err(_) => Ok(0),
@@ -128,7 +129,7 @@ fn call_with_texts(number: u8, text: Bytes, other: Bytes) -> Call {
     }
 }
 
-fn aspect(heap: Heap, number: u8) -> Result<Aspect, AllocError> {
+fn numbered_aspect(heap: Heap, number: u8) -> Result<Aspect, AllocError> {
     let num = Num(usize::MAX);
     Ok(match number {
         0 => Aspect::Entry(num, Name::copy(heap, b"a")?),
@@ -145,7 +146,7 @@ fn aspect(heap: Heap, number: u8) -> Result<Aspect, AllocError> {
     })
 }
 
-fn cause(aspect: Aspect, write: bool) -> Cause {
+fn cause_of(aspect: Aspect, write: bool) -> Cause {
     Cause {
         touch: Touch { aspect, write },
         other: Pid(9),
@@ -169,7 +170,7 @@ fn two_names(heap: Heap) -> Result<NameList, AllocError> {
     Ok(NameList::new(names))
 }
 
-fn reply(heap: Heap, number: u8) -> Result<Reply, AllocError> {
+fn numbered_reply(heap: Heap, number: u8) -> Result<Reply, AllocError> {
     Ok(match number {
         0 => Reply::Answer(Answer::Done),
         1 => Reply::Answer(Answer::Fd(Fd(u32::MAX))),
@@ -231,11 +232,11 @@ const ERRNOS: [Errno; 18] = [
 ];
 
 // A rename by process 3, which is done; 7 was made and 2 doomed.
-const RENAMED: &[u8; 26] =
+const RENAMED_BYTES: &[u8; 26] =
     b"\x03\0\0\0\x00\x0e\x01a\x01b\x00\x00\x01\x07\0\0\0\0\0\0\0\x01\x02\0\0\0";
 
 // A write at an offset below zero, which is refused with EINVAL.
-const REFUSED: &[u8; 37] =
+const REFUSED_BYTES: &[u8; 37] =
     b"\x03\0\0\0\x00\x05\x05\0\0\0\x02xy\xfe\xff\xff\xff\xff\xff\xff\xff\x01\x05\x01\x07\0\0\0\0\0\0\0\x01\x02\0\0\0";
 
 fn renamed(heap: Heap) -> Result<Entry, AllocError> {
@@ -255,7 +256,7 @@ fn both(heap: Heap) -> Result<Vec<Entry, Heap>, AllocError> {
     Ok(entries)
 }
 
-fn record(heap: Heap) -> Result<Vec<u8, Heap>, AllocError> {
+fn record_of_both(heap: Heap) -> Result<Vec<u8, Heap>, AllocError> {
     let mut out = Vec::new(heap);
     put_entries(both(heap)?.as_slice(), &mut out)?;
     Ok(out)
@@ -270,8 +271,8 @@ fn bytes_of(heap: Heap, entry: &Entry) -> Result<Vec<u8, Heap>, AllocError> {
 #[test]
 fn bytes_by_hand(rt: HostRuntime) -> Result<(), Fail> {
     let heap = heap::open(rt.alloc())?;
-    assert!(rt; bytes_of(heap, &renamed(heap)?)?.as_slice() == RENAMED.as_slice());
-    assert!(rt; bytes_of(heap, &refused(heap)?)?.as_slice() == REFUSED.as_slice());
+    assert!(rt; bytes_of(heap, &renamed(heap)?)?.as_slice() == RENAMED_BYTES.as_slice());
+    assert!(rt; bytes_of(heap, &refused(heap)?)?.as_slice() == REFUSED_BYTES.as_slice());
     Ok(())
 }
 
@@ -303,7 +304,7 @@ fn each_call_with_text_there_and_back(rt: HostRuntime) -> Result<(), Fail> {
 fn each_reply_there_and_back(rt: HostRuntime) -> Result<(), Fail> {
     let heap = heap::open(rt.alloc())?;
     for number in 0..REPLIES {
-        assert!(rt; is_small(heap, Op::End, reply(heap, number)?)?);
+        assert!(rt; is_small(heap, Op::End, numbered_reply(heap, number)?)?);
     }
     for kind in KINDS {
         assert!(rt; is_small(heap, Op::End, Reply::Answer(stat_of(kind)))?);
@@ -319,11 +320,11 @@ fn each_reply_there_and_back(rt: HostRuntime) -> Result<(), Fail> {
 fn each_cause_there_and_back(rt: HostRuntime) -> Result<(), Fail> {
     let heap = heap::open(rt.alloc())?;
     for number in 0..ASPECTS {
-        let busy = Reply::Busy(cause(aspect(heap, number)?, true));
+        let busy = Reply::Busy(cause_of(numbered_aspect(heap, number)?, true));
         let begin = Op::Begin(BeginFlags::all());
         assert!(rt; is_small(heap, begin, busy)?);
         let aborted = Reply::Aborted {
-            why: Why::Clash(cause(aspect(heap, number)?, false)),
+            why: Why::Clash(cause_of(numbered_aspect(heap, number)?, false)),
             restarted: true,
         };
         assert!(rt; is_small(heap, Op::End, aborted)?);
@@ -355,13 +356,16 @@ fn is_short(read: Result<Vec<Entry, Heap>, ReadError>) -> bool {
 #[test]
 fn each_beginning_is_refused(rt: HostRuntime) -> Result<(), Fail> {
     let heap = heap::open(rt.alloc())?;
-    let record = record(heap)?;
+    let record = record_of_both(heap)?;
     assert_eq!(rt; record.len(), 64);
     for length in 0..record.len() {
         assert!(rt; is_short(read_entries(heap, &record.as_slice()[..length])));
     }
-    let entries = read_entries(heap, record.as_slice()).ok().ok_or("it is a record")?;
-    assert_eq!(rt; entries.len(), 2);
+    let count = match read_entries(heap, record.as_slice()) {
+        Ok(entries) => entries.len(),
+        Err(_) => 0,
+    };
+    assert_eq!(rt; count, 2);
     Ok(())
 }
 
@@ -389,7 +393,7 @@ fn a_fault_says_its_place(rt: HostRuntime) -> Result<(), Fail> {
 #[test]
 fn a_record_ends_with_its_last_entry(rt: HostRuntime) -> Result<(), Fail> {
     let heap = heap::open(rt.alloc())?;
-    let mut longer = record(heap)?;
+    let mut longer = record_of_both(heap)?;
     longer.push(0)?;
     let is_refused = match read_entries(heap, longer.as_slice()) {
         Err(ReadError::Fault(fault)) => fault.wrong == Wrong::Trailing && fault.left == 1,

@@ -1,4 +1,3 @@
-use Rattle.std.proofs.Common.{◌≡◌, ◌++◌, ◌∷◌, []}
 use Rattle.std.proofs.lemmas.Result.{err_from_is_err_and}
 use Rattle.entry_codec.specs.Reading.{items_at, text_at}
 use Rattle.entry_codec.proofs.Loop.{goes_on, ends, is_done}

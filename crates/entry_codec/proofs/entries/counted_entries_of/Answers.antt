@@ -1,4 +1,3 @@
-use Rattle.std.proofs.Common.{◌≡◌, ◌++◌, ◌∷◌, []}
 use Rattle.entry_codec.specs.Reading.{items_at}
 use Rattle.entry_codec.specs.ReadingEntries.{entry_at}
 use Rattle.entry_codec.proofs.Loop.{goes_on, ends, is_done}
