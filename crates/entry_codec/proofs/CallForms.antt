@@ -1,6 +1,5 @@
 -- The forms of operations and calls.
-use Rattle.std.proofs.Common.{◌≡◌, ℕ, ◌<◌, ◌^◌, Bool, List, [], ◌∷◌, ◌++◌, length, Result, Ok, Err, refl, subst}
-use Rattle.std.specs.Int.{w32, w64}
+use Rattle.std.proofs.Common.{◌≡◌, ℕ, ◌<◌, List, [], ◌∷◌, ◌++◌, length, Ok, refl}
 use Rattle.ids.specs.declared.call.Whence.{Whence}
 use Rattle.ids.specs.declared.call.Whence.TheVariants as whence
 use Rattle.ids.specs.declared.call.Space.{Space}
@@ -31,9 +30,7 @@ use Rattle.entry_codec.specs.declared.numbers.TheConstants.{CALL_FCHMOD, CALL_FC
 use Rattle.entry_codec.specs.declared.numbers.TheConstants.{CALL_DUP2, CALL_PIPE, CALL_FORK}
 use Rattle.entry_codec.specs.declared.numbers.TheConstants.{CALL_EXIT}
 use Rattle.entry_codec.specs.declared.numbers.TheConstants.{OP_CALL, OP_BEGIN, OP_END, OP_ABORT}
-use Rattle.entry_codec.specs.Parts.{optional_bytes}
 use Rattle.entry_codec.specs.Calls.{whence_number, space_number, special_number, new_owner_bytes, IsNewOwner, call_bytes, IsCall, op_bytes, IsOp}
-use Rattle.entry_codec.specs.Reading.{Read, one, two, three, four, byte_at, text_at, flag_at, optional_at}
 use Rattle.entry_codec.specs.ReadingCalls.{whence_of, whence_at, space_of, space_at, special_of, special_at, open_flags_at, begin_flags_at, new_owner_at}
 use Rattle.entry_codec.specs.ReadingCalls.{rights_call_of, paths_call_of, path_call_of, length_call_of, content_call_of, call_of, call_at, op_of, op_at}
 use Rattle.entry_codec.proofs.Formats.{IsBytes, Takes, IsFormat, Always, Took, choose, one_takes, two_takes, one_again, two_again, three_again, four_again}

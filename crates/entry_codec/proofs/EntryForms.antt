@@ -1,17 +1,14 @@
 -- The form of an entry, and that of a record.
-use Rattle.std.proofs.Common.{◌≡◌, ℕ, ◌<◌, ◌^◌, Bool, List, [], ◌∷◌, ◌++◌, length, Result, Ok, Err, refl, sym, ap, subst, ◌∙◌, cond, eqb, ◌-◌, ◌+◌, ◌≤◌, drop, arith, length-append}
-use Rattle.std.specs.Int.{w32, w64}
-use Rattle.std.specs.List.{flat_map}
+use Rattle.std.proofs.Common.{◌≡◌, ℕ, ◌<◌, ◌^◌, List, [], ◌++◌, length, Result, Ok, Err, refl, sym, ap, subst, ◌∙◌, cond, eqb, ◌-◌, ◌+◌, ◌≤◌, drop, arith, length-append}
 use Rattle.std.proofs.lemmas.Bool.{eqb-true}
 use Rattle.std.proofs.lemmas.List.{append-nil, nil_from_length, drop_at}
 use Rattle.std.specs.Prelude.{IfOk}
 use Rattle.ids.specs.declared.entry.Entry.{Entry}
 use Rattle.entry_codec.specs.declared.fault.ReadError.{ReadError}
 use Rattle.entry_codec.specs.declared.fault.Wrong.TheVariants as wrong
-use Rattle.entry_codec.specs.Parts.{list_bytes, IsList}
-use Rattle.entry_codec.specs.Calls.{op_bytes}
+use Rattle.entry_codec.specs.Parts.{IsList}
 use Rattle.entry_codec.specs.Entries.{nums_bytes, pids_bytes, entry_bytes, IsEntry, entries_bytes, AreEntries}
-use Rattle.entry_codec.specs.Reading.{Read, ◌>>=◌, fault_at, Gives, five, list_at, number_at}
+use Rattle.entry_codec.specs.Reading.{Read, ◌>>=◌, fault_at, Gives, list_at}
 use Rattle.entry_codec.specs.ReadingEntries.{nums_at, pids_at, entry_from, entry_at, entries_in}
 use Rattle.entry_codec.proofs.Formats.{IsBytes, Takes, IsFormat, bind_ok, holds_ok, ok_is, done, five_takes, five_again}
 use Rattle.entry_codec.proofs.PartForms.{u32_format, u64_format, list_format}

@@ -1,6 +1,6 @@
 -- What a form is: what is read is what the bytes are the form of, and what has a form is read from it,
 -- whatever stands behind. Forms of one to five fields, one after the other, and of variants.
-use Rattle.std.proofs.Common.{◌≡◌, ℕ, zero, suc, ◌<◌, Bool, true, false, cond, eqb, List, [], ◌∷◌, ◌++◌, get_or, Result, Ok, Err, refl, sym, ap, subst, ◌∙◌, append_assoc, arith}
+use Rattle.std.proofs.Common.{◌≡◌, ℕ, suc, ◌<◌, Bool, true, false, cond, eqb, List, [], ◌∷◌, ◌++◌, get_or, Result, Ok, Err, refl, sym, ap, subst, ◌∙◌, append_assoc}
 use Rattle.std.proofs.lemmas.Bool.{eqb-true}
 use Rattle.entry_codec.specs.declared.fault.Fault.{Fault}
 use Rattle.entry_codec.specs.Reading.{Read, ◌>>=◌, one, two, three, four, five, byte_at}

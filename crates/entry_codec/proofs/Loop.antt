@@ -1,7 +1,6 @@
 -- Reading items one after the other, as a loop does.
-use Rattle.std.proofs.Common.{◌≡◌, ℕ, suc, ◌-◌, ◌+◌, ◌≤◌, ◌<◌, List, [], ◌∷◌, ◌++◌, Result, Ok, Err, refl, sym, ap, ◌∙◌, append_assoc, arith}
+use Rattle.std.proofs.Common.{◌≡◌, ℕ, suc, ◌-◌, ◌+◌, ◌≤◌, ◌<◌, List, [], ◌∷◌, ◌++◌, Ok, Err, refl, sym, ap, ◌∙◌, append_assoc, arith}
 use Rattle.std.proofs.lemmas.List.{append-nil}
-use Rattle.entry_codec.specs.declared.fault.Fault.{Fault}
 use Rattle.entry_codec.specs.declared.fault.ReadError.{ReadError}
 use Rattle.entry_codec.specs.declared.fault.ReadError.TheVariants as errors
 use Rattle.entry_codec.specs.Reading.{Read, ◌>>=◌, Fails, items_at}

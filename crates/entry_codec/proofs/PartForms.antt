@@ -1,5 +1,5 @@
 -- The forms of numbers, sizes, bytes, flags and lists.
-use Rattle.std.proofs.Common.{◌≡◌, ℕ, ℤ, zero, suc, ◌+◌, ◌^◌, ◌<◌, ◌≤◌, Bool, true, false, cond, ltb, eqb, List, [], ◌∷◌, ◌++◌, length, get_or, take, drop, Option, Some, None, Result, Ok, Err, refl, sym, ap, subst, ◌∙◌, append_assoc, arith, inl, inr}
+use Rattle.std.proofs.Common.{◌≡◌, ℕ, ℤ, zero, suc, ◌+◌, ◌^◌, ◌<◌, ◌≤◌, Bool, true, false, cond, ltb, List, [], ◌∷◌, ◌++◌, length, take, drop, Option, Some, None, Ok, Err, refl, sym, ap, subst, ◌∙◌, append_assoc, arith, inl, inr}
 use Rattle.std.specs.Prelude.{IfSome, FitsSigned}
 use Rattle.std.specs.List.{flat_map, AllByRecursion}
 use Rattle.std.specs.Int.{Width, w16, w32, w64, byte_len, from_le_bytes, to_le_bytes, cast_signed, cast_unsigned}
@@ -11,7 +11,7 @@ use Rattle.std.proofs.lemmas.List.Concat.{flat_map-cons}
 use Rattle.std.proofs.lemmas.Nat.{le_bytes_2, le_bytes_4, le_bytes_8, from_le_bytes-to_le_bytes_2, from_le_bytes-to_le_bytes_4, from_le_bytes-to_le_bytes_8}
 use Rattle.entry_codec.specs.declared.fault.Wrong.TheVariants as wrong
 use Rattle.entry_codec.specs.Parts.{u16_bytes, u32_bytes, u64_bytes, signed_bytes, size_bytes, text_bytes, IsText, flag_bytes, optional_bytes, list_bytes, IsList}
-use Rattle.entry_codec.specs.Reading.{Read, ◌>>=◌, fault_at, one, byte_at, number_at, signed_at, permissions_at, size_at, text_at, flag_of, flag_at, where_set, optional_at, items_at, list_at}
+use Rattle.entry_codec.specs.Reading.{Read, ◌>>=◌, fault_at, byte_at, number_at, signed_at, permissions_at, size_at, text_at, flag_of, flag_at, where_set, optional_at, items_at, list_at}
 use Rattle.entry_codec.proofs.Formats.{IsBytes, Takes, Takes-then, IsFormat, bind_ok, guard_ok, holds_ok, ok_is, done, choose, one_takes, one_again, variant0, numbered, Always, Took}
 
 IsBytes-drop : (n : ℕ) (bytes : List ℕ) → IsBytes bytes → IsBytes (drop n bytes)

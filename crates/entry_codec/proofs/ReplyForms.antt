@@ -1,6 +1,5 @@
 -- The forms of replies.
-use Rattle.std.proofs.Common.{◌≡◌, ℕ, ◌<◌, ◌^◌, Bool, List, [], ◌∷◌, ◌++◌, length, Result, Ok, Err, refl, subst}
-use Rattle.std.specs.Int.{w32, w64}
+use Rattle.std.proofs.Common.{◌≡◌, ℕ, List, [], ◌∷◌, ◌++◌, Ok, refl}
 use Rattle.ids.specs.declared.errno.Errno.{Errno}
 use Rattle.ids.specs.declared.errno.Errno.TheVariants as errno
 use Rattle.ids.specs.declared.reply.Kind.{Kind}
@@ -42,14 +41,12 @@ use Rattle.entry_codec.specs.declared.numbers.TheConstants.{REPLY_IN_TRANSACTION
 use Rattle.entry_codec.specs.declared.numbers.TheConstants.{REPLY_NOT_IN_TRANSACTION}
 use Rattle.entry_codec.specs.declared.numbers.TheConstants.{REPLY_HISTORY_FULL, REPLY_NO_MEMORY}
 use Rattle.entry_codec.specs.declared.numbers.TheConstants.{REPLY_NO_PROCESS}
-use Rattle.entry_codec.specs.Parts.{IsText, text_bytes, list_bytes, IsList}
 use Rattle.entry_codec.specs.Replies.{errno_number, kind_number, aspect_bytes, IsAspect, touch_bytes, cause_bytes, IsCause, why_bytes, IsWhy, rights_bytes, IsRights, stat_bytes, IsStat, names_bytes, AreNames, answer_bytes, IsAnswer, reply_bytes, IsReply}
-use Rattle.entry_codec.specs.Reading.{Read, one, two, three, five, byte_at, text_at, flag_at}
 use Rattle.entry_codec.specs.ReadingReplies.{errno_of, errno_at, kind_of, kind_at, other_aspect_of, aspect_of, aspect_at, touch_at, cause_at, why_of, why_at}
 use Rattle.entry_codec.specs.ReadingReplies.{rights_from, rights_at, stat_from, stat_at, names_at, answer_of, answer_at, reply_of, reply_at}
-use Rattle.entry_codec.proofs.Formats.{IsBytes, Takes, IsFormat, Always, Took, choose, one_takes, two_takes, three_takes, five_takes, one_again, two_again, three_again, five_again}
+use Rattle.entry_codec.proofs.Formats.{IsBytes, Takes, IsFormat, Always, Took, choose, two_takes, three_takes, five_takes, one_again, two_again, three_again, five_again}
 use Rattle.entry_codec.proofs.Formats.{variant0, variant1, variant2, numbered}
-use Rattle.entry_codec.proofs.PartForms.{byte_format, u32_format, u64_format, permissions_format, text_format, flag_format, list_format}
+use Rattle.entry_codec.proofs.PartForms.{u32_format, u64_format, permissions_format, text_format, flag_format, list_format}
 
 errno_takes : (n : ℕ) (bytes : List ℕ) (x : Errno × List ℕ) → IsBytes bytes → errno_of n bytes ≡ Ok x → Took (λ v. errno_number v ∷ []) Always n bytes x
 unfolding errno_of

@@ -1,5 +1,5 @@
 -- Operations and calls as they are read.
-use Rattle.std.specs.Prelude.{ℕ, ◌==◌, List, Result, Ok, Err, if◌then◌else◌}
+use Rattle.std.specs.Prelude.{ℕ, ◌==◌, List, Ok, Err, if◌then◌else◌}
 use Rattle.std.specs.Int.{w32}
 use Rattle.ids.specs.declared.call.Whence.{Whence}
 use Rattle.ids.specs.declared.call.Whence.TheVariants as whence

@@ -1,5 +1,5 @@
 -- Replies as they are read.
-use Rattle.std.specs.Prelude.{ℕ, ◌==◌, List, Result, Ok, Err, if◌then◌else◌}
+use Rattle.std.specs.Prelude.{ℕ, ◌==◌, List, Ok, Err, if◌then◌else◌}
 use Rattle.std.specs.Int.{w32, w64}
 use Rattle.ids.specs.declared.errno.Errno.{Errno}
 use Rattle.ids.specs.declared.errno.Errno.TheVariants as errno

@@ -1,6 +1,6 @@
 -- The bytes of replies: the number of the variant, and its fields in their order. `IsReply` and the like
 -- say that each number is in the range of its type, as it is of each value of a program.
-use Rattle.std.specs.Prelude.{ℕ, ◌<◌, ◌^◌, List, [], ◌∷◌, ◌++◌, length}
+use Rattle.std.specs.Prelude.{ℕ, ◌<◌, ◌^◌, List, [], ◌∷◌, ◌++◌}
 use Rattle.ids.specs.declared.errno.Errno.{Errno}
 use Rattle.ids.specs.declared.errno.Errno.TheVariants as errno
 use Rattle.ids.specs.declared.reply.Kind.{Kind}
