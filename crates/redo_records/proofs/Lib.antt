@@ -1,0 +1,6 @@
+mod Looking
+mod Running
+mod Leading
+mod Beginnings
+mod Suiting
+pub mod Laws

@@ -1,0 +1,3 @@
+pub mod Changing
+pub mod Records
+pub mod Recovery
