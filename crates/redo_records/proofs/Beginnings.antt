@@ -56,25 +56,32 @@ has_from m (e ∷ es) n = by (has_from (next m e) es) (added m e) refl n where
   by : ((n : ℕ) → (before : List Entry) × HasFrom (next m e) es n before) → (xs : List Item) → as_record (added m e) ≡ as_record xs → (n : ℕ) → (before : List Entry) × HasFrom m (e ∷ es) n before
   by later [] is n =
       let rest = later n in
-      let more : (fs : List Entry) → records_from m (e ∷ fs) ≡ records_from (next m e) fs = λ fs. ap (λ rs. rs ++ records_from (next m e) fs) is in
-      (e ∷ rest.0, record {
-        is_before = behind e rest.0 es rest.1.is_before;
-        same = more rest.0 ∙ rest.1.same ∙ ap (take n) (sym (more es));
-        longest = longer m e es rest.0 n (λ fs begins low. rest.1.longest fs begins (subst (λ rs. length rs ≤ n) (more fs) low));
-      })
-  by later (it ∷ its) is zero = ([], record {
-    is_before = none_before (e ∷ es);
-    same = refl;
-    longest = only_none m e es 0 (λ fs low. no_less (it ∷ its) (records_from (next m e) fs) (subst (λ rs. length rs ≤ 0) (ap (λ rs. rs ++ records_from (next m e) fs) is) low));
-  })
+      let more : (fs : List Entry) → records_from m (e ∷ fs) ≡ records_from (next m e) fs = λ fs. ap (λ rs. rs ++ records_from (next m e) fs) is in (
+        e ∷ rest.0,
+        record {
+          is_before = behind e rest.0 es rest.1.is_before;
+          same = more rest.0 ∙ rest.1.same ∙ ap (take n) (sym (more es));
+          longest = longer m e es rest.0 n (λ fs begins low. rest.1.longest fs begins (subst (λ rs. length rs ≤ n) (more fs) low));
+        },
+      )
+  by later (it ∷ its) is zero = (
+    [],
+    record {
+      is_before = none_before (e ∷ es);
+      same = refl;
+      longest = only_none m e es 0 (λ fs low. no_less (it ∷ its) (records_from (next m e) fs) (subst (λ rs. length rs ≤ 0) (ap (λ rs. rs ++ records_from (next m e) fs) is) low));
+    },
+  )
   by later (it ∷ its) is (suc k) =
       let rest = later k in
-      let more : (fs : List Entry) → records_from m (e ∷ fs) ≡ (it ∷ its) ∷ records_from (next m e) fs = λ fs. ap (λ rs. rs ++ records_from (next m e) fs) is in
-      (e ∷ rest.0, record {
-        is_before = behind e rest.0 es rest.1.is_before;
-        same = more rest.0 ∙ ap (λ rs. (it ∷ its) ∷ rs) rest.1.same ∙ ap (take (suc k)) (sym (more es));
-        longest = longer m e es rest.0 (suc k) (λ fs begins low. rest.1.longest fs begins (one_less (it ∷ its) (records_from (next m e) fs) k (subst (λ rs. length rs ≤ suc k) (more fs) low)));
-      })
+      let more : (fs : List Entry) → records_from m (e ∷ fs) ≡ (it ∷ its) ∷ records_from (next m e) fs = λ fs. ap (λ rs. rs ++ records_from (next m e) fs) is in (
+        e ∷ rest.0,
+        record {
+          is_before = behind e rest.0 es rest.1.is_before;
+          same = more rest.0 ∙ ap (λ rs. (it ∷ its) ∷ rs) rest.1.same ∙ ap (take (suc k)) (sym (more es));
+          longest = longer m e es rest.0 (suc k) (λ fs begins low. rest.1.longest fs begins (one_less (it ∷ its) (records_from (next m e) fs) k (subst (λ rs. length rs ≤ suc k) (more fs) low)));
+        },
+      )
 
 pub beginnings_have_records : BeginningsHaveRecords
 beginnings_have_records root setup es n =

@@ -20,10 +20,12 @@ first_records_make_it_again root setup limit es n legal =
     let before : List Entry = begins.0 in
     let legal_before : Legal root setup limit before = beginnings_are_legal root setup limit before es begins.1.is_before legal in
     let run : Run (start root setup) (all_of (take n (records root setup es))) (after root setup before).committed
-    = subst (λ rs. Run (start root setup) (all_of rs) (after root setup before).committed) begins.1.same (records_lead_to_the_state root setup limit before legal_before) in
-    (before, record {
-      has = begins.1;
-      legal = legal_before;
-      run = run;
-      only = λ state other. same_end (start root setup) (after root setup before).committed state (all_of (take n (records root setup es))) run other;
-    })
+    = subst (λ rs. Run (start root setup) (all_of rs) (after root setup before).committed) begins.1.same (records_lead_to_the_state root setup limit before legal_before) in (
+      before,
+      record {
+        has = begins.1;
+        legal = legal_before;
+        run = run;
+        only = λ state other. same_end (start root setup) (after root setup before).committed state (all_of (take n (records root setup es))) run other;
+      },
+    )

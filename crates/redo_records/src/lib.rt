@@ -10,6 +10,11 @@
 ghost use Rattle.redo_records.specs.Recovery.{BeginningsHaveRecords, FirstRecordsMakeItAgain};
 ghost use Rattle.redo_records.specs.Recovery.{LegalEntriesSuit, RecordsGrow, RecordsLeadToTheState};
 
+mod recorder;
+mod transaction;
+
+pub use recorder::{Record, Recorder};
+
 /// All records, one behind the other, lead from the start to the committed state.
 /// Proved in `proofs/Leading.antt`.
 pub fn records_lead_to_the_state()
