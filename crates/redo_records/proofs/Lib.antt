@@ -3,4 +3,6 @@ mod Running
 mod Leading
 mod Beginnings
 mod Suiting
+mod Dooming
+mod Noting
 pub mod Laws
