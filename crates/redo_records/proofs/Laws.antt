@@ -11,7 +11,9 @@ use Rattle.redo_records.specs.Records.{records, all_of}
 use Rattle.redo_records.specs.Recovery.{FirstRecordsMakeItAgain}
 use Rattle.redo_records.proofs.Running.{same_end}
 pub use Rattle.redo_records.proofs.Beginnings.{beginnings_have_records, records_grow}
+pub use Rattle.redo_records.proofs.Looking.{left_out_changes_nothing}
 pub use Rattle.redo_records.proofs.Leading.{records_lead_to_the_state}
+pub use Rattle.redo_records.proofs.Telling.{are_items, tell_first, tell_items, tell_more}
 pub use Rattle.redo_records.proofs.Suiting.{legal_entries_suit}
 
 pub first_records_make_it_again : FirstRecordsMakeItAgain

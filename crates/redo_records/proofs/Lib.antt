@@ -5,4 +5,5 @@ mod Beginnings
 mod Suiting
 mod Dooming
 mod Noting
+mod Telling
 pub mod Laws

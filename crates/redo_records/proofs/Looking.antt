@@ -4,12 +4,12 @@ use Rattle.std.specs.Prelude.{if◌then◌else◌}
 use Rattle.model.specs.State.{Kernel, A_file, A_directory, A_pipe, A_link, A_fifo, A_socket}
 use Rattle.model.specs.Plan.{Errno, EBADF, EINVAL, ELOOP, ENOTDIR, ESPIPE, given, or_refuse}
 use Rattle.model.specs.Walks.{Place, is_directory, is_link, parsed, walk}
-use Rattle.model.specs.Changes.{Edit}
+use Rattle.model.specs.Changes.{Edit, all_applied, tidy}
 use Rattle.model.specs.Calls.{Call, Pread, Stat, Fstat, List_directory, Readlink, Lstat, Answer, Own, own}
 use Rattle.model.specs.Plans.{Change, plan, slot, status, is_pipe, offset_named}
 use Rattle.model.specs.Steps.{outcome, reply, reply_of, edits, edits_of}
 use Rattle.call_laws.proofs.Laws.{after_bind, allowed, either_given, whatever}
-use Rattle.redo_records.specs.Changing.{only_looks, changes}
+use Rattle.redo_records.specs.Changing.{only_looks, changes, LeftOutChangesNothing}
 
 -- no edits
 abbrev Bare : Change → Type 0
@@ -57,8 +57,13 @@ looks_by true h = refl
 looks_by false h = absurd cc
 
 -- a call that was answered as it is, and so can have changed nothing, has no edits
-pub no_edits : (k : Kernel) (pid : ℕ) (call : Call) (answer : Result Answer Errno) → answer ≡ reply k pid call → changes call answer ≡ false → edits k pid call ≡ []
+no_edits : (k : Kernel) (pid : ℕ) (call : Call) (answer : Result Answer Errno) → answer ≡ reply k pid call → changes call answer ≡ false → edits k pid call ≡ []
 no_edits k pid call answer is none = by (outcome k pid call) (ap (changes call) (sym is) ∙ none) (bare_plan k (own k pid call) call) where
   by : (r : Result Change Errno) → changes call (reply_of r) ≡ false → (only_looks call ≡ true → IfOk r Bare) → edits_of r ≡ []
   by (Ok c) h bare = bare (looks_by (only_looks call) h)
   by (Err e) h bare = refl
+
+pub left_out_changes_nothing : LeftOutChangesNothing
+left_out_changes_nothing k after pid call answer chosen step none =
+    let bare : edits k pid call ≡ [] = no_edits k pid call answer step.replied none in
+    (bare, step.changed ∙ ap (λ es. tidy (all_applied chosen es k)) bare)

@@ -12,7 +12,7 @@ use Rattle.model.specs.Legal.{items}
 use Rattle.model.specs.Suits.{suits, is_committed}
 use Rattle.redo_records.specs.Changing.{only_looks, changes, changing}
 use Rattle.redo_records.specs.Records.{added, as_record}
-use Rattle.redo_records.specs.Kept.{AreOf, IsKept, any_told, begun_kept, called, in_place, is_change, items_in, list_told, next_kept, own_kept, own_told, plain_told, settled_kept, with_call}
+use Rattle.redo_records.specs.Kept.{AreOf, IsKept, any_told, begun_kept, called, in_place, is_change, items_in, list_told, own_kept, own_told, plain_told, settled_kept, with_call}
 use Rattle.redo_records.specs.Pending.{Pending}
 use Rattle.redo_records.specs.Recording.{Tell}
 use Rattle.redo_records.specs.declared.transaction.Transaction.{Transaction}
@@ -298,16 +298,16 @@ module _ (m : Moment) (e : Entry) (dooms : List ℕ) where
       → IsKept q ((next m e).phase q) z
   kept_next q x y z ds same h u first then_doomed =
       subst (IsKept q (next_phase m e q)) (sym (then_doomed ∙ ap (λ (ns : List ℕ). if is_in q ns then in_place Doomed y else y) same)) (by_doomed (is_in q e.doomed)) where
-    by_own : (b : Bool) → (q == e.pid) ≡ b → IsKept q (if b then own_next (m.entries + 1) (m.phase q) e.op e.reply e.chosen else m.phase q) (if b then own_kept own e.reply x else x)
-    by_own false _ = h
-    by_own true is =
-        let met : q ≡ e.pid = eqb-true q e.pid is in
-        subst (λ (p : ℕ). IsKept p (own_next (m.entries + 1) (m.phase p) e.op e.reply e.chosen) (own_kept own e.reply x)) (sym met)
-        (own_is e.pid e.chosen dooms (is_alive m.committed e.pid) (m.phase e.pid) x e.op e.reply (m.entries + 1) (subst (λ (p : ℕ). IsKept p (m.phase p) x) met h) u)
+        by_own : (b : Bool) → (q == e.pid) ≡ b → IsKept q (if b then own_next (m.entries + 1) (m.phase q) e.op e.reply e.chosen else m.phase q) (if b then own_kept own e.reply x else x)
+        by_own false _ = h
+        by_own true is =
+            let met : q ≡ e.pid = eqb-true q e.pid is in
+            subst (λ (p : ℕ). IsKept p (own_next (m.entries + 1) (m.phase p) e.op e.reply e.chosen) (own_kept own e.reply x)) (sym met)
+            (own_is e.pid e.chosen dooms (is_alive m.committed e.pid) (m.phase e.pid) x e.op e.reply (m.entries + 1) (subst (λ (p : ℕ). IsKept p (m.phase p) x) met h) u)
 
-    owned : IsKept q (if q == e.pid then own_next (m.entries + 1) (m.phase q) e.op e.reply e.chosen else m.phase q) y
-    owned = subst (IsKept q (if q == e.pid then own_next (m.entries + 1) (m.phase q) e.op e.reply e.chosen else m.phase q)) (sym first) (by_own (q == e.pid) refl)
+        owned : IsKept q (if q == e.pid then own_next (m.entries + 1) (m.phase q) e.op e.reply e.chosen else m.phase q) y
+        owned = subst (IsKept q (if q == e.pid then own_next (m.entries + 1) (m.phase q) e.op e.reply e.chosen else m.phase q)) (sym first) (by_own (q == e.pid) refl)
 
-    by_doomed : (d : Bool) → IsKept q (if d then doom (if q == e.pid then own_next (m.entries + 1) (m.phase q) e.op e.reply e.chosen else m.phase q) (doom_cause m e.pid (dooming_touches m e.pid e.op) q) else (if q == e.pid then own_next (m.entries + 1) (m.phase q) e.op e.reply e.chosen else m.phase q)) (if d then in_place Doomed y else y)
-    by_doomed true = doomed_is q _ y _ owned
-    by_doomed false = owned
+        by_doomed : (d : Bool) → IsKept q (if d then doom (if q == e.pid then own_next (m.entries + 1) (m.phase q) e.op e.reply e.chosen else m.phase q) (doom_cause m e.pid (dooming_touches m e.pid e.op) q) else (if q == e.pid then own_next (m.entries + 1) (m.phase q) e.op e.reply e.chosen else m.phase q)) (if d then in_place Doomed y else y)
+        by_doomed true = doomed_is q _ y _ owned
+        by_doomed false = owned

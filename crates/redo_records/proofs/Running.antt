@@ -3,8 +3,8 @@ use Rattle.std.proofs.Common.{◌≡◌, ℕ, Bool, true, false, List, [], ◌�
 use Rattle.std.specs.Prelude.{filter}
 use Rattle.std.specs.List.{AllByRecursion}
 use Rattle.model.specs.State.{Kernel}
-use Rattle.model.specs.Changes.{tidy, all_applied}
-use Rattle.model.specs.Steps.{Item, Step, Run, edits}
+use Rattle.model.specs.Changes.{tidy}
+use Rattle.model.specs.Steps.{Item, Step, Run}
 use Rattle.model.specs.Entries.{Executed, is_inside}
 use Rattle.model.specs.Moments.{is_alive}
 use Rattle.model.specs.Legal.{items}
@@ -12,7 +12,7 @@ use Rattle.call_laws.specs.WellFormed.{WellFormed}
 use Rattle.call_laws.specs.CallLaws.{IsReady, changed}
 use Rattle.call_laws.proofs.Laws.{calls_are_lawful_lem}
 use Rattle.redo_records.specs.Changing.{changes, changing}
-use Rattle.redo_records.proofs.Looking.{no_edits}
+use Rattle.redo_records.proofs.Looking.{left_out_changes_nothing}
 
 pub run_append : (k mid l : Kernel) (xs ys : List Item) → Run k xs mid → Run mid ys l → Run k (xs ++ ys) l
 run_append k mid l [] ys r q = subst (λ x. Run x ys l) r q
@@ -32,9 +32,7 @@ same_end k l n (x ∷ xs) r q =
 -- a step that can have changed nothing leaves a tidied state as it is
 pub still : (k l : Kernel) (it : Item) → tidy k ≡ k → Step k it.pid it.call it.answer it.chosen l → changes it.call it.answer ≡ false → l ≡ k
 still k l it tidied step none =
-    step.changed
-    ∙ ap (λ es. tidy (all_applied it.chosen es k)) (no_edits k it.pid it.call it.answer step.replied none)
-    ∙ tidied
+    (left_out_changes_nothing k l it.pid it.call it.answer it.chosen step none).1 ∙ tidied
 
 -- a well-formed state in which nothing is unreached, and in which the process lives
 pub record Stands (pid : ℕ) (k : Kernel) : Type 0 where

@@ -1,12 +1,12 @@
 -- What a recorder keeps of a process: nothing while it is in no transaction, else the entries of its
 -- changing calls while that lives, and that it is doomed.
 use Rattle.std.specs.Prelude.{◌≡◌, ℕ, ◌-◌, ◌<◌, List, [], ◌∷◌, ◌++◌, Bool, true, false, not, ⊤}
-use Rattle.std.specs.Prelude.{Option, Some, None, if◌then◌else◌, ◌==◌}
+use Rattle.std.specs.Prelude.{Option, Some, None, if◌then◌else◌}
 use Rattle.model.specs.Steps.{Item}
 use Rattle.model.specs.Entries.{Op, Do, Begin, End, Abort, Reply, Answers, Refuses, Begun, Committed}
 use Rattle.model.specs.Entries.{GivenUp, Aborted, Busy, InTransaction, NotInTransaction, HistoryFull}
 use Rattle.model.specs.Entries.{NoMemory, NoProcess, Entry}
-use Rattle.model.specs.Moments.{Status, gone, idle, live, doomed, is_in, run_by}
+use Rattle.model.specs.Moments.{Status, idle, live, doomed, run_by}
 use Rattle.model.specs.Legal.{items}
 use Rattle.redo_records.specs.Changing.{only_looks, changing}
 use Rattle.redo_records.specs.Pending.{Pending}
@@ -85,12 +85,6 @@ own_kept e NotInTransaction kept = kept
 own_kept e HistoryFull kept = kept
 own_kept e NoMemory kept = kept
 own_kept e NoProcess kept = kept
-
--- after an entry of any process
-abbrev pub next_kept : Entry → ℕ → Option Transaction → Option Transaction
-next_kept e q kept =
-    let own = if q == e.pid then own_kept e e.reply kept else kept in
-    if is_in q e.doomed then in_place Doomed own else own
 
 -- the entries of a record that an entry completes, if it does
 abbrev pub plain_told : Entry → Bool → Option Transaction → List (List Entry)

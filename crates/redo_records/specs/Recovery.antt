@@ -9,8 +9,8 @@ use Rattle.model.specs.Legal.{Legal, IsBefore}
 use Rattle.model.specs.Suits.{suits}
 use Rattle.redo_records.specs.Records.{added, as_record, records, all_of}
 
--- What is left out changes nothing: all records, one behind the other, run on a plain kernel from the
--- start with the answers and the numbers that stand in them, lead to the committed state.
+-- All records, one behind the other, run on a plain kernel from the start with the answers and the
+-- numbers that stand in them, lead to the committed state.
 abbrev pub RecordsLeadToTheState : Type 0
 RecordsLeadToTheState = (root : ℕ) (setup : Setup) (limit : Limit) (es : List Entry)
     → Legal root setup limit es

@@ -7,13 +7,22 @@
 //! names of these functions.
 #![tactic(auto)]
 
+ghost use Rattle.redo_records.specs.Changing.{LeftOutChangesNothing};
 ghost use Rattle.redo_records.specs.Recovery.{BeginningsHaveRecords, FirstRecordsMakeItAgain};
 ghost use Rattle.redo_records.specs.Recovery.{LegalEntriesSuit, RecordsGrow, RecordsLeadToTheState};
 
 mod recorder;
+#[cfg(test)]
+mod tests;
 mod transaction;
 
 pub use recorder::{Record, Recorder};
+
+/// A call that is left out of the records changes nothing.
+/// Proved in `proofs/Looking.antt`.
+pub fn left_out_changes_nothing()
+    ensures { LeftOutChangesNothing }
+{}
 
 /// All records, one behind the other, lead from the start to the committed state.
 /// Proved in `proofs/Leading.antt`.

@@ -4,7 +4,7 @@ ghost use Rattle.std.specs.Prelude.{IsOk, OnOk, None, Some, if◌then◌else◌,
 ghost use Rattle.std.specs.HashMap.{get, spare};
 ghost use Rattle.model.specs.Moments.{Moment, idle, is_in, next, status};
 ghost use Rattle.model.specs.Suits.{suits};
-ghost use Rattle.redo_records.specs.Kept.{HasPlace, called, in_place, is_change, list_told, next_kept};
+ghost use Rattle.redo_records.specs.Kept.{HasPlace, called, in_place, is_change, list_told};
 ghost use Rattle.redo_records.specs.Kept.{no_calls, own_kept, own_told, plain_told, settled_kept};
 ghost use Rattle.redo_records.specs.Kept.{without_room};
 ghost use Rattle.redo_records.specs.Changing.{only_looks};
@@ -234,7 +234,7 @@ impl Recorder {
 
     /// Notes an entry. It gives the record that the entry completes, if it does: that of an executed
     /// plain call, or of a transaction that it commits. It takes no memory.
-    pub fn note(&mut self, entry: Entry) -> Option<Record>
+    pub fn note(&mut self, mut entry: Entry) -> Option<Record>
         requires { HasRoom self.old entry.pid entry.op }
         ensures follows { (m : Moment) → Follows m self.old
             → suits (status m entry.pid) entry.op entry.reply ≡ true
@@ -243,7 +243,6 @@ impl Recorder {
             → suits (status m entry.pid) entry.op entry.reply ≡ true
             → Tell (as_record (added m entry)) (told result) }
     {
-        let mut entry = entry;
         let doomed = replace(&mut entry.doomed, Pids::new(self.heap));
         let record = self.note_own(entry);
         doom_all(&mut self.transactions, doomed.as_slice());
