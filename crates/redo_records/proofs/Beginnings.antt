@@ -3,10 +3,10 @@ use Rattle.std.proofs.Common.{◌≡◌, ℕ, zero, suc, ◌≤◌, List, [], �
 use Rattle.std.proofs.Math.Seq.{take-nil}
 use Rattle.model.specs.Steps.{Item}
 use Rattle.model.specs.Entries.{Entry}
-use Rattle.model.specs.Moments.{Setup, Moment, next, after, after_from, at_start}
+use Rattle.model.specs.Moments.{Moment, next, after_from, at_start}
 use Rattle.model.specs.Legal.{IsBefore}
-use Rattle.redo_records.specs.Records.{added, as_record, records_from, records}
-use Rattle.redo_records.specs.Recovery.{HasRecords, BeginningsHaveRecords, RecordsGrow}
+use Rattle.redo_records.specs.Records.{added, as_record, records_from}
+use Rattle.redo_records.specs.Recovery.{BeginningsHaveRecords, RecordsGrow}
 
 -- the same from any moment on
 record HasFrom (m : Moment) (es : List Entry) (n : ℕ) (before : List Entry) : Type 0 where

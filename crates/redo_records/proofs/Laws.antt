@@ -1,10 +1,8 @@
 -- The laws as the crates above cite them.
-use Rattle.std.proofs.Common.{◌≡◌, ℕ, List, take, refl, sym, ap, subst}
-use Rattle.model.specs.State.{Kernel}
+use Rattle.std.proofs.Common.{List, take, subst}
 use Rattle.model.specs.Steps.{Run}
 use Rattle.model.specs.Entries.{Entry}
-use Rattle.model.specs.Forgetting.{Limit}
-use Rattle.model.specs.Moments.{Setup, start, after}
+use Rattle.model.specs.Moments.{start, after}
 use Rattle.model.specs.Legal.{Legal}
 use Rattle.history_laws.proofs.Laws.{beginnings_are_legal}
 use Rattle.redo_records.specs.Records.{records, all_of}

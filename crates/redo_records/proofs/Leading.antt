@@ -1,23 +1,22 @@
 -- The records lead to the committed state.
-use Rattle.std.proofs.Common.{◌≡◌, ◌≢◌, ℕ, Bool, true, false, List, [], ◌∷◌, ◌++◌, Option, Some, None, Result, refl, sym, ap, subst, ◌∙◌, append_assoc, append-nil}
-use Rattle.std.specs.List.{AllByRecursion, flat_map}
+use Rattle.std.proofs.Common.{◌≡◌, ℕ, true, List, [], ◌∷◌, ◌++◌, Option, Some, None, Result, refl, sym, ap, subst, ◌∙◌, append_assoc, append-nil}
+use Rattle.std.specs.List.{AllByRecursion}
 use Rattle.std.proofs.lemmas.List.Elements.{filter-append}
 use Rattle.std.proofs.lemmas.Grind.{flat_map-append}
 use Rattle.model.specs.State.{Kernel}
 use Rattle.model.specs.Plan.{Errno}
-use Rattle.model.specs.Changes.{tidy}
 use Rattle.model.specs.Calls.{Call, Answer}
 use Rattle.model.specs.Steps.{Item, Run}
-use Rattle.model.specs.Entries.{Op, Do, Begin, End, Abort, Reply, Answers, Refuses, Begun, Committed, GivenUp, Aborted, Busy, InTransaction, NotInTransaction, HistoryFull, NoMemory, NoProcess, Entry, Executed, answer_in, is_inside}
+use Rattle.model.specs.Entries.{Op, Do, Begin, End, Abort, Reply, Committed, Entry, Executed, answer_in, is_inside}
 use Rattle.model.specs.Forgetting.{Limit}
-use Rattle.model.specs.Moments.{Setup, Status, gone, idle, live, doomed, Moment, status, start, after, after_from, at_start, next, plain_calls, run_by, calls_of, calls_at, holds_place, is_alive}
-use Rattle.model.specs.Legal.{Legal, items, serial, serial_from, IsBefore}
+use Rattle.model.specs.Moments.{Setup, Status, gone, idle, live, doomed, Moment, status, start, after, after_from, at_start, next, plain_calls, run_by, calls_of, calls_at, holds_place}
+use Rattle.model.specs.Legal.{Legal, items, serial, serial_from}
 use Rattle.history_laws.specs.Standing.{Standing}
 use Rattle.history_laws.proofs.Laws.{after_one_more, beginnings_are_legal, phase_is, the_committed_state_is_serial, what_stands}
 use Rattle.redo_records.specs.Changing.{changes, changing}
 use Rattle.redo_records.specs.Records.{added, as_record, records_from, records, all_of}
 use Rattle.redo_records.specs.Recovery.{RecordsLeadToTheState}
-use Rattle.redo_records.proofs.Running.{Stands, list_kept, one_kept, run_append, run_split, same_end}
+use Rattle.redo_records.proofs.Running.{list_kept, one_kept, run_append, run_split, same_end}
 
 -- one entry more in the serial list
 serial_more : (m : Moment) (es : List Entry) (e : Entry) → serial_from m (es ++ e ∷ []) ≡ serial_from m es ++ items e.pid (run_by (status (after_from m es) e.pid) e.op e.reply e.chosen)

@@ -1,10 +1,10 @@
 -- A call that only looks has no edits, and neither has one that is refused.
-use Rattle.std.proofs.Common.{◌≡◌, ℕ, Bool, true, false, not, ◌==◌, List, [], ◌∷◌, Option, Some, None, Result, Ok, Err, IfOk, refl, sym, ap, ◌∙◌}
+use Rattle.std.proofs.Common.{◌≡◌, ℕ, Bool, true, false, not, ◌==◌, [], Some, None, Result, Ok, Err, IfOk, refl, sym, ap, ◌∙◌}
 use Rattle.std.specs.Prelude.{if◌then◌else◌}
 use Rattle.model.specs.State.{Kernel, A_file, A_directory, A_pipe, A_link, A_fifo, A_socket}
 use Rattle.model.specs.Plan.{Errno, EBADF, EINVAL, ELOOP, ENOTDIR, ESPIPE, given, or_refuse}
 use Rattle.model.specs.Walks.{Place, is_directory, is_link, parsed, walk}
-use Rattle.model.specs.Changes.{Edit, all_applied, tidy}
+use Rattle.model.specs.Changes.{all_applied, tidy}
 use Rattle.model.specs.Calls.{Call, Pread, Stat, Fstat, List_directory, Readlink, Lstat, Answer, Own, own}
 use Rattle.model.specs.Plans.{Change, plan, slot, status, is_pipe, offset_named}
 use Rattle.model.specs.Steps.{outcome, reply, reply_of, edits, edits_of}

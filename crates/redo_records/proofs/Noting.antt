@@ -1,5 +1,5 @@
 -- What a recorder keeps and tells after an entry that suits.
-use Rattle.std.proofs.Common.{◌≡◌, ℕ, ◌+◌, Bool, true, false, not, ◌||◌, ◌==◌, List, [], ◌∷◌, ◌++◌, cond, Option, Some, None, Result, Ok, Err, refl, sym, ap, subst, ◌∙◌, append-nil}
+use Rattle.std.proofs.Common.{◌≡◌, ℕ, ◌+◌, Bool, true, false, not, ◌==◌, List, [], ◌∷◌, ◌++◌, cond, Option, Some, None, Result, Ok, Err, refl, sym, ap, subst, ◌∙◌, append-nil}
 use Rattle.std.specs.Prelude.{if◌then◌else◌}
 use Rattle.std.proofs.lemmas.Bool.{eqb-true}
 use Rattle.std.proofs.lemmas.List.Elements.{filter-append}
@@ -12,7 +12,7 @@ use Rattle.model.specs.Legal.{items}
 use Rattle.model.specs.Suits.{suits, is_committed}
 use Rattle.redo_records.specs.Changing.{only_looks, changes, changing}
 use Rattle.redo_records.specs.Records.{added, as_record}
-use Rattle.redo_records.specs.Kept.{AreOf, IsKept, any_told, begun_kept, called, in_place, is_change, items_in, list_told, own_kept, own_told, plain_told, settled_kept, with_call}
+use Rattle.redo_records.specs.Kept.{AreOf, IsKept, any_told, begun_kept, called, in_place, is_change, list_told, own_kept, own_told, plain_told, settled_kept}
 use Rattle.redo_records.specs.Pending.{Pending}
 use Rattle.redo_records.specs.Recording.{Tell}
 use Rattle.redo_records.specs.declared.transaction.Transaction.{Transaction}

@@ -1,5 +1,5 @@
 -- Each right entry suits.
-use Rattle.std.proofs.Common.{◌≡◌, Bool, true, false, not, ◌&&◌, ◌||◌, ◌++◌, List, [], ◌∷◌, Option, Some, None, refl, ap, ◌∙◌}
+use Rattle.std.proofs.Common.{◌≡◌, Bool, true, false, not, ◌&&◌, ◌||◌, [], ◌∷◌, Option, Some, None, refl, ap, ◌∙◌}
 use Rattle.std.specs.Prelude.{if◌then◌else◌}
 use Rattle.std.specs.Option.{is_some}
 use Rattle.ids.specs.Flags.{is_aborting_unsupported}
@@ -8,7 +8,7 @@ use Rattle.model.specs.Plan.{ENOTSUP}
 use Rattle.model.specs.Calls.{Call}
 use Rattle.model.specs.Forgetting.{Limit}
 use Rattle.model.specs.Moments.{Status, gone, idle, live, doomed, Moment, status, after, counted_touches, losing_cause}
-use Rattle.model.specs.Legal.{Outcome, Inside, RightAt, LegalFrom, unsupported}
+use Rattle.model.specs.Legal.{Outcome, Inside, RightAt, unsupported}
 use Rattle.model.specs.Suits.{suits, is_clash, is_busy, is_begun, is_committed, is_given_up, is_in_transaction, is_not_in_transaction, is_no_process, is_executed, is_refused_inside}
 use Rattle.history_laws.proofs.Laws.{legality_follows}
 use Rattle.redo_records.specs.Recovery.{LegalEntriesSuit}

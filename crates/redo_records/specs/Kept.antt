@@ -3,13 +3,12 @@
 use Rattle.std.specs.Prelude.{◌≡◌, ℕ, ◌-◌, ◌<◌, List, [], ◌∷◌, ◌++◌, Bool, true, false, not, ⊤}
 use Rattle.std.specs.Prelude.{Option, Some, None, if◌then◌else◌}
 use Rattle.model.specs.Steps.{Item}
-use Rattle.model.specs.Entries.{Op, Do, Begin, End, Abort, Reply, Answers, Refuses, Begun, Committed}
+use Rattle.model.specs.Entries.{Op, Do, Begin, Reply, Answers, Refuses, Begun, Committed}
 use Rattle.model.specs.Entries.{GivenUp, Aborted, Busy, InTransaction, NotInTransaction, HistoryFull}
 use Rattle.model.specs.Entries.{NoMemory, NoProcess, Entry}
 use Rattle.model.specs.Moments.{Status, idle, live, doomed, run_by}
 use Rattle.model.specs.Legal.{items}
 use Rattle.redo_records.specs.Changing.{only_looks, changing}
-use Rattle.redo_records.specs.Pending.{Pending}
 use Rattle.redo_records.specs.declared.transaction.Transaction.{Transaction}
 use Rattle.redo_records.specs.declared.transaction.Transaction.TheVariants.{Live, Doomed}
 

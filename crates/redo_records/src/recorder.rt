@@ -1,5 +1,5 @@
 //! What finds the records of a history as its entries come.
-ghost use Rattle.std.specs.Prelude.{◌≡◌, ◌≢◌, ◌<◌, ◌==◌, ℕ, List, [], ◌∷◌, true, false, is_some, nat_eq};
+ghost use Rattle.std.specs.Prelude.{◌≡◌, ◌<◌, ◌==◌, ℕ, List, true, false, nat_eq};
 ghost use Rattle.std.specs.Prelude.{IsOk, OnOk, None, Some, if◌then◌else◌, option_map};
 ghost use Rattle.std.specs.HashMap.{get, spare};
 ghost use Rattle.model.specs.Moments.{Moment, idle, is_in, next, status};
