@@ -14,7 +14,7 @@ use Rattle.model.specs.Legal.{Legal, items, serial, serial_from}
 use Rattle.history_laws.specs.Standing.{Standing}
 use Rattle.history_laws.proofs.Laws.{after_one_more, beginnings_are_legal, phase_is, the_committed_state_is_serial, what_stands}
 use Rattle.redo_records.specs.Changing.{changes, changing}
-use Rattle.redo_records.specs.Records.{added, as_record, records_from, records, all_of}
+use Rattle.redo_records.specs.Records.{added, as_record, records_from, all_of}
 use Rattle.redo_records.specs.Recovery.{RecordsLeadToTheState}
 use Rattle.redo_records.proofs.Running.{list_kept, one_kept, run_append, run_split, same_end}
 

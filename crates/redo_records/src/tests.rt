@@ -1,4 +1,7 @@
 //! What a recorder tells of small histories.
+ghost use Rattle.std.specs.Prelude.{OnOk};
+ghost use Rattle.redo_records.specs.Recording.{HasRoom};
+
 use crate::{Record, Recorder};
 use heap::Heap;
 use ids::{Answer, BeginFlags, Bytes, Call, Entry, Errno, Nums, Op, Pid, Pids, Reply};
@@ -45,11 +48,17 @@ fn committed(heap: Heap, pid: u32) -> Entry {
     entry(heap, pid, Op::End, Reply::Committed)
 }
 
+fn reserve_for(recorder: &mut Recorder, entry: &Entry) -> Result<(), AllocError>
+    ensures { OnOk result (HasRoom recorder.new entry.now.pid entry.now.op) }
+{
+    recorder.reserve(entry.pid, &entry.op)
+}
+
 // Of how many calls the record is that an entry completes; none is of none.
 fn told(recorder: &mut Recorder, entry: Entry) -> Result<usize, AllocError> {
-    recorder.reserve(entry.pid, &entry.op)?;
+    reserve_for(recorder, &entry)?;
     Ok(match recorder.note(entry) {
-        Some(Record::Call(_)) => 1,
+        Some(Record::Call(_entry)) => 1,
         Some(Record::Transaction(entries)) => entries.len(),
         None => 0,
     })
