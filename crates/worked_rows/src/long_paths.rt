@@ -59,7 +59,7 @@ fn is_made<K: Machine>(heap: Heap, kernel: &mut K, len: usize) -> Result<bool, F
     let above = make_above(heap, kernel, len)?;
     let made = is_done(kernel, Call::Mkdir(path_of(heap, len)?));
     let found = !is_too_long(kernel, path_of(heap, len)?);
-    let longer = is_too_long(kernel, path_of(heap, len + 1)?);
+    let longer = is_too_long(kernel, path_of(heap, len.saturating_add(1))?);
     let removed = is_done(kernel, Call::Rmdir(path_of(heap, len)?));
     pass(heap, kernel.history())?;
     Ok(above && made && found && longer && removed)

@@ -73,7 +73,7 @@ fn are_given<K: Machine>(kernel: &mut K, first: u32, end: u32) -> bool {
 // Whether, of all that are open, those that are closed are given again, the lowest first.
 fn are_given_again<K: Machine>(kernel: &mut K, end: u32) -> bool {
     let low = end / 3;
-    let high = end - 1;
+    let high = end.saturating_sub(1);
     close(kernel, high);
     close(kernel, low);
     dup(kernel) == low && dup(kernel) == high && dup(kernel) == REFUSED
