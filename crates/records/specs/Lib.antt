@@ -6,3 +6,4 @@ pub mod Groups
 pub mod Index
 pub mod Ranges
 pub mod Holders
+pub mod Rows
