@@ -1,2 +1,4 @@
 mod Names
 mod Placed
+mod Firsts
+mod Runs

@@ -12,3 +12,8 @@ mod Listing
 mod Once
 mod Entries
 mod Found
+mod Places
+mod Rowed
+mod Using
+mod Entering
+mod Suffix

@@ -46,14 +46,14 @@ impl Model for Records {
     ghost use Rattle.std.specs.Prelude.{List};
     ghost use Rattle.model.specs.Steps.{Touch};
     ghost use Rattle.records.specs.Index.{IsIndexed, ListsWritten};
-    ghost use Rattle.records.specs.Rows.{all_without_blocks, AreRowsOf};
+    ghost use Rattle.records.specs.Rows.{all_without_blocks, places_of, AreRowsOf};
 
     ghost Value = { List (List Touch) };
 
     ghost view = { λ r. r.journals };
 
     ghost invariant = { λ r. IsIndexed (all_without_blocks r.journals) r.index
-        × ListsWritten r.index × AreRowsOf r.journals r.rows };
+        × ListsWritten r.index × AreRowsOf r.journals (places_of r.rows) };
 }
 
 impl Records {

@@ -1,7 +1,8 @@
 // The processes that use blocks from one on, each up to a block of its own.
-ghost use Rattle.std.specs.Prelude.{◌≡◌, ℕ, ◌<◌, ◌≤◌, not, false, true, filter, map, []};
-ghost use Rattle.std.specs.Prelude.{IfOk, IfSome, IfNone, OnErr};
+ghost use Rattle.std.specs.Prelude.{◌≡◌, ℕ, ◌<◌, ◌≤◌, false, true, filter, map, []};
+ghost use Rattle.std.specs.Prelude.{IfOk, IfSome, IfNone, OnOk, OnErr};
 ghost use Rattle.records.specs.Rows.{uses, has_block, ended, own_ended, is_own};
+ghost use Rattle.records.specs.Rows.{with_use, without_use};
 
 use heap::Heap;
 use ids::Pid;
@@ -81,7 +82,11 @@ impl Row {
 
     /// A process uses the blocks up to this last one. Where its use is there already, it takes no
     /// memory. Refused memory changes nothing.
-    pub fn put(&mut self, pid: Pid, write: bool, last: u32) -> Result<(), AllocError> {
+    pub fn put(&mut self, pid: Pid, write: bool, last: u32) -> Result<(), AllocError>
+        ensures ok { OnOk result (self.new.holdings.items
+            ≡ with_use pid write last self.old.holdings.items) }
+        ensures err { OnErr result (self.new.holdings.items ≡ self.old.holdings.items) }
+    {
         for i in 0..self.holdings.len() {
             let holding = &mut self.holdings.as_mut_slice()[i];
             if is_own(holding, pid, write) {
@@ -121,7 +126,7 @@ impl Row {
     /// A process goes, as a reader or as a writer. It takes no memory.
     pub fn leave(&mut self, pid: Pid, write: bool)
         ensures { self.new.holdings.items
-            ≡ filter (λ h. not (is_own pid write h)) self.old.holdings.items }
+            ≡ without_use pid write self.old.holdings.items }
     {
         self.holdings.retain(|holding| !is_own(holding, pid, write));
     }

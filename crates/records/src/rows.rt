@@ -1,5 +1,11 @@
 // Who uses which blocks of files.
-ghost use Rattle.std.specs.Prelude.{◌≡◌, ℕ, ◌+◌, ◌<◌, ◌≤◌, ◌^◌};
+ghost use Rattle.std.specs.Prelude.{◌≡◌, ℕ, suc, ◌<◌, ◌≤◌, false, true, List, [], filter, Some};
+ghost use Rattle.std.specs.Prelude.{IfSome, IfNone, IfOk, OnOk, OnErr};
+ghost use Rattle.std.specs.Option.{option_copied};
+ghost use Rattle.records.specs.Rows.{places_of, row_at, uses_at, holdings_of};
+ghost use Rattle.records.specs.Rows.{IsStartOf, IsFirstStart, HaveNoStart};
+ghost use Rattle.records.specs.Rows.{with_use, has_block, left_of, Puts, Opens, SamePlaces};
+ghost use Rattle.records.specs.declared.row.Holding.{Holding};
 
 use crate::row::Row;
 use heap::Heap;
@@ -30,7 +36,10 @@ pub struct Part {
 }
 
 /// Where the row of a block starts. It takes no memory.
-pub fn start_of(rows: &Rows, file: Num, block: u32) -> Option<u32> {
+pub fn start_of(rows: &Rows, file: Num, block: u32) -> Option<u32>
+    ensures some { IfSome result (IsStartOf (places_of rows.now) file block) }
+    ensures none { IfNone result (HaveNoStart (places_of rows.now) file 0 block) }
+{
     let first = (file, 0);
     let last = (file, block);
     let (place, _) = rows
@@ -41,7 +50,9 @@ pub fn start_of(rows: &Rows, file: Num, block: u32) -> Option<u32> {
 }
 
 /// The row of a block. It takes no memory.
-pub fn row_of(rows: &Rows, file: Num, block: u32) -> Option<&Row> {
+pub fn row_of(rows: &Rows, file: Num, block: u32) -> Option<&Row>
+    ensures { holdings_of (option_copied result) ≡ row_at (places_of rows.now) file block }
+{
     let start = start_of(rows, file, block)?;
     rows.get(&(file, start))
 }
@@ -49,6 +60,8 @@ pub fn row_of(rows: &Rows, file: Num, block: u32) -> Option<&Row> {
 /// The first start of a row among these blocks. It takes no memory.
 pub fn first_start(rows: &Rows, file: Num, from: u32, to: u32) -> Option<u32>
     requires { from ≤ to }
+    ensures some { IfSome result (IsFirstStart (places_of rows.now) file from to) }
+    ensures none { IfNone result (HaveNoStart (places_of rows.now) file from to) }
 {
     let first = (file, from);
     let last = (file, to);
@@ -62,6 +75,8 @@ pub fn first_start(rows: &Rows, file: Num, from: u32, to: u32) -> Option<u32>
 /// The first start of a row behind a block, up to a last one. It takes no memory.
 pub fn next_start(rows: &Rows, file: Num, block: u32, last: u32) -> Option<u32>
     requires { block ≤ last }
+    ensures some { IfSome result (IsFirstStart (places_of rows.now) file (suc block) last) }
+    ensures none { IfNone result (HaveNoStart (places_of rows.now) file (suc block) last) }
 {
     if block < last {
         first_start(rows, file, block + 1, last)
@@ -73,6 +88,13 @@ pub fn next_start(rows: &Rows, file: Num, block: u32, last: u32) -> Option<u32>
 /// What a process uses from a block on, up to a last one. It takes no memory.
 pub fn part_at(rows: &Rows, user: User, block: u32, last: u32) -> Part
     requires { block ≤ last }
+    ensures from { block ≤ result.last }
+    ensures to { result.last ≤ last }
+    ensures whole { HaveNoStart (places_of rows.now) user.file (suc block) result.last }
+    ensures used { result.is_used ≡ true → (b : ℕ) → block ≤ b → b ≤ result.last
+        → uses_at (places_of rows.now) user.file user.pid user.write b ≡ true }
+    ensures free { result.is_used ≡ false
+        → uses_at (places_of rows.now) user.file user.pid user.write block ≡ false }
 {
     let end = match next_start(rows, user.file, block, last) {
         Some(next) => next - 1,
@@ -95,7 +117,12 @@ pub fn part_at(rows: &Rows, user: User, block: u32, last: u32) -> Part
 }
 
 /// A process uses the blocks from a row's first one up to a last one. Refused memory changes nothing.
-fn put_in(rows: &mut Rows, user: User, start: u32, last: u32) -> Result<(), AllocError> {
+fn put_in(rows: &mut Rows, user: User, start: u32, last: u32) -> Result<(), AllocError>
+    ensures ok { OnOk result ((hs : List Holding) → places_of rows.old user.file start ≡ Some hs
+        → Puts (places_of rows.old) (places_of rows.new) user.file start
+        (Some (with_use user.pid user.write last hs))) }
+    ensures err { OnErr result (SamePlaces (places_of rows.old) (places_of rows.new)) }
+{
     match rows.get_mut(&(user.file, start)) {
         Some(row) => row.put(user.pid, user.write, last),
         None => Ok(()),
@@ -109,7 +136,12 @@ fn split_row(
     file: Num,
     before: Option<u32>,
     block: u32,
-) -> Result<Row, AllocError> {
+) -> Result<Row, AllocError>
+    ensures none { IfNone before (IfOk result (λ row. row.holdings.items ≡ [])) }
+    ensures some { IfSome before (λ start. (hs : List Holding)
+        → places_of rows.now file start ≡ Some hs
+        → IfOk result (λ row. row.holdings.items ≡ filter (has_block block) hs)) }
+{
     let Some(start) = before else {
         return Ok(Row::new(heap));
     };
@@ -128,7 +160,12 @@ fn open_row(
     before: Option<u32>,
     first: u32,
     last: u32,
-) -> Result<(), AllocError> {
+) -> Result<(), AllocError>
+    requires { IfSome before (λ start. start < first) }
+    ensures ok { OnOk result (Opens (places_of rows.old) (places_of rows.new) user.file before first
+        user.pid user.write last) }
+    ensures err { OnErr result (SamePlaces (places_of rows.old) (places_of rows.new)) }
+{
     let mut row = split_row(heap, rows, user.file, before, first)?;
     row.put(user.pid, user.write, last)?;
     rows.insert((user.file, first), row)?;
@@ -158,7 +195,10 @@ pub fn enter_part(
 }
 
 /// A process goes from a row, which goes too where nobody is left. It takes no memory.
-fn leave_row(rows: &mut Rows, user: User, start: u32) {
+fn leave_row(rows: &mut Rows, user: User, start: u32)
+    ensures { Puts (places_of rows.old) (places_of rows.new) user.file start
+        (left_of user.pid user.write (places_of rows.old user.file start)) }
+{
     let nobody = match rows.get_mut(&(user.file, start)) {
         Some(row) => {
             row.leave(user.pid, user.write);

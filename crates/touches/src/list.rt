@@ -1,5 +1,5 @@
 // Touches in the order in which they are made.
-ghost use Rattle.std.specs.Prelude.{◌≡◌, ◌+◌, ◌≤◌, ◌^◌, ◌++◌, ◌∷◌, [], OnOk, map};
+ghost use Rattle.std.specs.Prelude.{◌≡◌, ◌+◌, ◌≤◌, ◌^◌, ◌++◌, ◌∷◌, [], true, OnOk, map};
 ghost use Rattle.model.specs.Aspects.{Block};
 ghost use Rattle.model.specs.Plan.{rising};
 ghost use Rattle.touches.specs.Expanded.{expanded, touching};
@@ -44,7 +44,7 @@ impl Touches {
 
     /// These.
     pub fn from_vec(all: Vec<Touched, Heap>) -> Touches
-        ensures { result ≡ expanded all.items }
+        ensures { result ≡ expanded all.entry.items }
     {
         Touches { all }
     }
