@@ -6,7 +6,7 @@ use Rattle.std.proofs.lemmas.Bool.{false≢true, eqb-true}
 use Rattle.std.proofs.lemmas.List.{append-nil}
 use Rattle.model.specs.Steps.{Touch}
 use Rattle.conflict.specs.Clashing.{AreClashes, AreClashesOf}
-use Rattle.conflict.specs.Firsts.{first_with, is_met, AreFirstsOf}
+use Rattle.conflict.specs.Firsts.{first_with, is_met, AreFirstsOf, AreFirstClashes}
 use Rattle.conflict.specs.declared.found.Clash.{Clash}
 
 first_by : (b : Bool) (c : Clash) (x y z : Option Clash) → x ≡ option_or y z → (if b then Some c else x) ≡ option_or (if b then Some c else y) z
@@ -70,3 +70,15 @@ clashes_append lists pid (t ∷ ts) us xs ys n h =
 -- those of one touch
 pub clashes_of_one : (lists : List (List Touch)) (pid : ℕ) (t : Touch) (own : List Clash) → AreClashesOf lists pid t own → AreClashes lists pid (t ∷ []) own
 clashes_of_one lists pid t own h = (own, [], sym (append-nil own), h, refl)
+
+-- the first clashes of some touches, with those of touches behind them
+pub firsts_more : (lists : List (List Touch)) (pid : ℕ) (ts us : List Touch) (found own new : List Clash) → AreFirstClashes lists pid ts found → AreClashes lists pid us own → AreFirstsOf (found ++ own) new → AreFirstClashes lists pid (ts ++ us) new
+firsts_more lists pid ts us found own new before are noted = (
+  before.0 ++ own,
+  clashes_append lists pid ts us before.0 own before.1 are,
+  firsts_via (before.0 ++ own) (found ++ own) new (firsts_append before.0 found own own before.2 (same_firsts own)) noted,
+)
+
+-- and where these have none
+pub firsts_same : (lists : List (List Touch)) (pid : ℕ) (ts us : List Touch) (found : List Clash) → AreFirstClashes lists pid ts found → AreClashes lists pid us [] → AreFirstClashes lists pid (ts ++ us) found
+firsts_same lists pid ts us found before are = firsts_more lists pid ts us found [] found before are (subst (λ (l : List Clash). AreFirstsOf l found) (sym (append-nil found)) (same_firsts found))

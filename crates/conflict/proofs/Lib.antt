@@ -1,4 +1,4 @@
 mod Names
 mod Placed
-mod Firsts
+pub mod Firsts
 mod Runs

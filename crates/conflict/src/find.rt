@@ -43,19 +43,6 @@ fn in_order(
     Ok(set)
 }
 
-/// All clashes of one touch, in order. Where there are none, nothing is put in order.
-fn clashes_of(
-    heap: Heap,
-    records: &Records,
-    caller: Pid,
-    touch: &Touch,
-) -> Result<BTreeSet<Clash, Heap>, AllocError>
-    ensures { IfOk result (λ set. AreClashesOf records.now caller touch.now set.keys) }
-{
-    let marks = records.holders(caller, touch)?;
-    in_order(heap, touch, marks)
-}
-
 /// The first clash with each process, in order.
 pub struct FirstClashes {
     heap: Heap,
@@ -118,13 +105,18 @@ impl FirstClashes {
         Ok(())
     }
 
-    // The clashes of one touch of the caller, with those that it has not met before.
+    // The clashes of one touch of the caller, with those that it has not met before. Where there are
+    // none, nothing is put in order.
     fn add_one(&mut self, records: &Records, caller: Pid, touch: &Touch) -> Result<(), AllocError>
         ensures { OnOk result ((own : List Clash)
             × AreClashesOf records.now caller touch.now own
             × AreFirstsOf (self.old ++ own) self.new) }
     {
-        for clash in clashes_of(self.heap, records, caller, touch)? {
+        let marks = records.holders(caller, touch)?;
+        if marks.is_empty() {
+            return Ok(());
+        }
+        for clash in in_order(self.heap, touch, marks)? {
             self.push(clash)?;
         }
         Ok(())

@@ -12,10 +12,10 @@ ghost use Rattle.list_modes.specs.Holding.{held_of};
 ghost use Rattle.model.specs.Steps.{Touch as OfModel};
 ghost use Rattle.records.specs.Touches.{touched_by, with_touches};
 ghost use Rattle.marked_records.specs.Marks.{SetsMarks, marks_at, mode_by_touches};
-ghost use Rattle.marked_records.specs.Marks.{others_write, looks_at};
+ghost use Rattle.marked_records.specs.Marks.{others_write};
 ghost use Rattle.conflict.specs.Clashing.{AreClashes};
 ghost use Rattle.conflict.specs.Firsts.{AreFirstClashes};
-ghost use Rattle.touches.specs.Expanded.{expanded};
+ghost use Rattle.touches.specs.Expanded.{expanded, touches_of};
 
 mod marking;
 
@@ -173,7 +173,9 @@ impl MarkedRecords {
 
     // Whether a touch may clash with one of another process: where no other process writes an entry
     // of a directory, a look at its names does not.
-    fn may_clash(&self, caller: Pid, touched: &Touched) -> bool {
+    fn may_clash(&self, caller: Pid, touched: &Touched) -> bool
+        ensures { result ≡ false → AreClashes self.now caller (touches_of touched.now) [] }
+    {
         match touched {
             Touched::One(Touch {
                 aspect: Aspect::Names(dir),

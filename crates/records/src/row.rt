@@ -73,7 +73,7 @@ impl Row {
     {
         let mut row = Row::new(heap);
         for holding in self.holdings.as_slice() {
-            if block <= holding.last {
+            if holding.last >= block {
                 row.holdings.push(*holding)?;
             }
         }

@@ -53,8 +53,12 @@ pub fn start_of(rows: &Rows, file: Num, block: u32) -> Option<u32>
 pub fn row_of(rows: &Rows, file: Num, block: u32) -> Option<&Row>
     ensures { holdings_of (option_copied result) ≡ row_at (places_of rows.now) file block }
 {
-    let start = start_of(rows, file, block)?;
-    rows.get(&(file, start))
+    let first = (file, 0);
+    let last = (file, block);
+    let (_, row) = rows
+        .range((Bound::Included(&first), Bound::Included(&last)))
+        .next_back()?;
+    Some(row)
 }
 
 /// The first start of a row among these blocks. It takes no memory.
