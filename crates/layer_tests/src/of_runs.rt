@@ -290,7 +290,7 @@ fn run(rt: &impl Abort, heap: Heap, seed: u32) {
     let mut random = Random { state: seed };
     let mut records = records_of(rt, heap);
     let mut uses = Vec::new(heap);
-    for _ in 0..120 {
+    for _ in 0..60 {
         change(rt, heap, &mut random, &mut records, &mut uses);
         assert_all(rt, &records, uses.as_slice());
     }
@@ -302,7 +302,7 @@ fn run(rt: &impl Abort, heap: Heap, seed: u32) {
 #[test]
 fn runs_are_their_blocks(rt: HostRuntime) {
     let heap = heap::open(rt.alloc()).expect(&rt, "memory");
-    for seed in 0..8 {
+    for seed in 0..4 {
         run(&rt, heap, seed);
     }
 }
@@ -312,7 +312,7 @@ fn refused(rt: &impl Abort, heap: Heap, seed: u32, number: u64) {
     let mut random = Random { state: seed };
     let mut records = records_of(rt, heap);
     let mut uses = Vec::new(heap);
-    for _ in 0..30 {
+    for _ in 0..15 {
         let asked = random.asked();
         let touches = touches_of(rt, heap, &asked);
         heap.refuse(number);

@@ -17,3 +17,5 @@ mod Rowed
 mod Using
 mod Entering
 mod Suffix
+mod Leaving
+mod Journaled

@@ -1,7 +1,7 @@
 -- A list in which each touch stands once, as several are added at its end or taken from there.
-use Rattle.std.proofs.Common.{◌≡◌, ◌∙◌, sym, refl, ap, subst, ℕ, zero, suc, ◌+◌, ◌<◌, ◌≤◌, Bool, true, false, ◌&&◌, ◌||◌, ◌==◌, List, [], ◌∷◌, ◌++◌, length, take, if◌then◌else◌, append_assoc, arith}
+use Rattle.std.proofs.Common.{◌≡◌, ◌∙◌, sym, refl, ap, subst, ℕ, zero, suc, ◌+◌, ◌<◌, ◌≤◌, inl, inr, Bool, true, false, not, ◌&&◌, ◌||◌, ◌==◌, List, [], ◌∷◌, ◌++◌, length, take, if◌then◌else◌, append_assoc, arith}
 use Rattle.std.specs.Prelude.{nat_le, nat_lt}
-use Rattle.std.proofs.lemmas.Bool.{false≢true, eq-eqb, ne_eqb}
+use Rattle.std.proofs.lemmas.Bool.{cases_eq, eq-eqb, ne_eqb}
 use Rattle.std.proofs.lemmas.Bool.Decides.{nat_tests}
 use Rattle.std.proofs.lemmas.List.{append-nil, length-append, take_at}
 use Rattle.model.specs.Aspects.{Block}
@@ -69,3 +69,52 @@ known_blocks f a zero w held all = refl
 known_blocks f a (suc n) w held all =
     ap (λ c. with_touches (if c then held else held ++ block_touch f a w ∷ []) (touches_of_blocks f (suc a) n w)) (all a (omega arith) (omega arith))
     ∙ known_blocks f (suc a) n w held (λ b from to. all b (omega arith) (omega arith))
+
+-- whether a touch is among those of blocks
+turned : (w v : Bool) → (if w then v else not v) ≡ alike v w
+turned true true = refl
+turned true false = refl
+turned false true = refl
+turned false false = refl
+
+merged : (s x y z : Bool) → (((s && x) && z) || ((s && y) && z)) ≡ ((s && (x || y)) && z)
+merged false x y z = refl
+merged true true true true = refl
+merged true true true false = refl
+merged true true false true = refl
+merged true true false false = refl
+merged true false y z = refl
+
+none_of : (a b : ℕ) → (nat_le a b && nat_lt b (a + 0)) ≡ false
+none_of a b = by (nat_le a b) refl where
+  by : (t : Bool) → nat_le a b ≡ t → (t && nat_lt b (a + 0)) ≡ false
+  by true le = grind (arith, nat_tests)
+  by false no = refl
+
+one_more : (a b n : ℕ) → ((a == b) || (nat_le (suc a) b && nat_lt b (suc a + n))) ≡ (nat_le a b && nat_lt b (a + suc n))
+one_more a b n = elim (cases_eq a b) [
+  | inl e ↦ here e
+  | inr ne ↦ there ne
+] where
+  here : a ≡ b → ((a == b) || (nat_le (suc a) b && nat_lt b (suc a + n))) ≡ (nat_le a b && nat_lt b (a + suc n))
+  here e =
+      let from : nat_le a b ≡ true = grind (arith, nat_tests) in
+      let to : nat_lt b (a + suc n) ≡ true = grind (arith, nat_tests) in
+      ap (λ t. t || (nat_le (suc a) b && nat_lt b (suc a + n))) (eq-eqb a b e) ∙ sym (ap (λ t. t && nat_lt b (a + suc n)) from ∙ to)
+
+  there : (a ≡ b → ⊥) → ((a == b) || (nat_le (suc a) b && nat_lt b (suc a + n))) ≡ (nat_le a b && nat_lt b (a + suc n))
+  there ne =
+      let from : nat_le (suc a) b ≡ nat_le a b = grind (arith, nat_tests) in
+      let to : suc a + n ≡ a + suc n = omega arith in
+      ap (λ t. t || (nat_le (suc a) b && nat_lt b (suc a + n))) (ne_eqb a b ne) ∙ ap (λ t. t && nat_lt b (suc a + n)) from ∙ ap (λ m. nat_le a b && nat_lt b m) to
+
+pub has_blocks : (f a n g b : ℕ) (v w : Bool) → has_touch (Block g b) w (touches_of_blocks f a n v) ≡ (((f == g) && (nat_le a b && nat_lt b (a + n))) && alike v w)
+has_blocks f a zero g b v w = sym (ap (λ t. ((f == g) && t) && alike v w) (none_of a b) ∙ none (f == g) (alike v w)) where
+  none : (x y : Bool) → ((x && false) && y) ≡ false
+  none true y = refl
+  none false y = refl
+has_blocks f a (suc n) g b v w =
+    ap (λ t. (((f == g) && (a == b)) && t) || has_touch (Block g b) w (touches_of_blocks f (suc a) n v)) (turned w v)
+    ∙ ap (λ t. (((f == g) && (a == b)) && alike v w) || t) (has_blocks f (suc a) n g b v w)
+    ∙ merged (f == g) (a == b) (nat_le (suc a) b && nat_lt b (suc a + n)) (alike v w)
+    ∙ ap (λ t. ((f == g) && t) && alike v w) (one_more a b n)

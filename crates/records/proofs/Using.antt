@@ -19,7 +19,7 @@ alike_itself true = refl
 alike_itself false = refl
 
 -- of one's own holding the test of a process is that of its own
-own_is : (p q : ℕ) (v w : Bool) (h : Holding) → is_own p v h ≡ true → is_own q w h ≡ is_user p v q w
+pub own_is : (p q : ℕ) (v w : Bool) (h : Holding) → is_own p v h ≡ true → is_own q w h ≡ is_user p v q w
 own_is p q v w h own =
     let parts = and_parts (h.pid == p) (alike h.write v) own in
     ap (λ n. (n == q) && alike h.write w) (eqb-true h.pid p parts.0) ∙ ap (λ b. (p == q) && alike b w) (alike_is h.write v parts.1)
@@ -108,7 +108,7 @@ from_uses c q b w (h ∷ hs) le = by (has_block c h) refl where
   by false no = from_uses c q b w hs le ∙ sym (ap (λ k. (is_own q w h && k) || uses q w b hs) (none no) ∙ ap (λ k. k || uses q w b hs) (and_false (is_own q w h)))
 
 -- those that end before a block, before it,
-ended_before : (c b : ℕ) (h : Holding) → b < c → has_block b (ended c h) ≡ has_block b h
+pub ended_before : (c b : ℕ) (h : Holding) → b < c → has_block b (ended c h) ≡ has_block b h
 ended_before c b h lt = by (has_block c h) refl where
   kept : has_block c h ≡ true → nat_le b (c - 1) ≡ has_block b h
   kept has = grind (arith, nat_tests)
@@ -117,7 +117,7 @@ ended_before c b h lt = by (has_block c h) refl where
   by true has = kept has
   by false no = refl
 
-own_as_ended : (c q : ℕ) (w : Bool) (h : Holding) → is_own q w (ended c h) ≡ is_own q w h
+pub own_as_ended : (c q : ℕ) (w : Bool) (h : Holding) → is_own q w (ended c h) ≡ is_own q w h
 own_as_ended c q w h = by (has_block c h) where
   by : (k : Bool) → is_own q w (if k then record h { last = c - 1 } else h) ≡ is_own q w h
   by true = refl
@@ -131,7 +131,7 @@ ended_uses c q b w (h ∷ hs) lt =
     ∙ ap (λ r. (is_own q w h && has_block b h) || r) (ended_uses c q b w hs lt)
 
 -- and from it on
-ended_behind : (c b : ℕ) (h : Holding) → 0 < c → c ≤ b → has_block b (ended c h) ≡ false
+pub ended_behind : (c b : ℕ) (h : Holding) → 0 < c → c ≤ b → has_block b (ended c h) ≡ false
 ended_behind c b h some le = by (has_block c h) refl where
   by : (k : Bool) → has_block c h ≡ k → has_block b (if k then record h { last = c - 1 } else h) ≡ false
   by true has = grind (arith, nat_tests)
