@@ -19,3 +19,4 @@ mod Entering
 mod Suffix
 mod Leaving
 mod Journaled
+mod Together

@@ -7,3 +7,4 @@ pub mod Index
 pub mod Ranges
 pub mod Holders
 pub mod Rows
+pub mod Runs

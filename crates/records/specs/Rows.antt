@@ -1,5 +1,5 @@
 -- Who uses which blocks of files, kept by rows.
-use Rattle.std.specs.Prelude.{◌≡◌, ℕ, zero, suc, ◌-◌, ◌+◌, ◌<◌, ◌≤◌, Bool, true, false, not, ◌&&◌, ◌==◌, nat_le}
+use Rattle.std.specs.Prelude.{◌≡◌, ℕ, zero, suc, ◌-◌, ◌+◌, ◌<◌, ◌≤◌, ◌⊎◌, Bool, true, false, not, ◌&&◌, ◌==◌, nat_le}
 use Rattle.std.specs.Prelude.{List, [], ◌∷◌, ◌++◌, map, filter, Option, Some, None, ⊤, if◌then◌else◌}
 use Rattle.std.specs.Option.{option_or, option_map}
 use Rattle.std.specs.List.{list_any, AllByRecursion}
@@ -11,7 +11,7 @@ use Rattle.model.specs.Steps.{Touch}
 use Rattle.model.specs.Clashes.{has_touch}
 use Rattle.touches.specs.Expanded.{touches_of_blocks}
 use Rattle.records.specs.Groups.{alike}
-use Rattle.records.specs.Touches.{touched_by}
+use Rattle.records.specs.Touches.{touched_by, distinct}
 use Rattle.records.specs.declared.row.Holding.{Holding}
 use Rattle.records.specs.declared.row.Row.{Row}
 
@@ -96,6 +96,12 @@ abbrev pub Puts : Places → Places → ℕ → ℕ → Option (List Holding) �
 Puts old new file start row = (f b : ℕ) → new f b
     ≡ (if (f == file) && (b == start) then row else old f b)
 
+-- where the row of a block starts: no other one starts behind it, up to the block
+pub record IsStartOf (rows : Places) (file block start : ℕ) : Type 0 where
+  pub before : start ≤ block
+  pub there : (hs : List Holding) × (rows file start ≡ Some hs)
+  pub none : (b : ℕ) → start < b → b ≤ block → rows file b ≡ None
+
 -- whether a touch is of a block of a file
 abbrev pub is_block_aspect : Aspect → Bool
 is_block_aspect (Block file block) = true
@@ -107,12 +113,6 @@ without_blocks ts = filter (λ t. not (is_block_aspect t.aspect)) ts
 
 abbrev pub all_without_blocks : List (List Touch) → List (List Touch)
 all_without_blocks lists = map without_blocks lists
-
--- where the row of a block starts: no other one starts behind it, up to the block
-pub record IsStartOf (rows : Places) (file block start : ℕ) : Type 0 where
-  pub before : start ≤ block
-  pub there : (hs : List Holding) × (rows file start ≡ Some hs)
-  pub none : (b : ℕ) → start < b → b ≤ block → rows file b ≡ None
 
 -- a row starts at one of these blocks, and none before that one
 pub record IsFirstStart (rows : Places) (file from to start : ℕ) : Type 0 where
@@ -134,6 +134,43 @@ Opens old new file (Some start) first pid write last = (hs : List Holding)
     → old file start ≡ Some hs → (mid : Places)
     × Puts old mid file first (Some (with_use pid write last (filter (has_block first) hs)))
     × Puts mid new file start (Some (map (ended first) hs))
+
+-- the row of a block, if there is one
+abbrev pub IsRowOf : Places → ℕ → ℕ → Option ℕ → Type 0
+IsRowOf rows file block None = (b : ℕ) → b ≤ block → rows file b ≡ None
+IsRowOf rows file block (Some start) = IsStartOf rows file block start
+
+-- A process's use of these blocks is put into the row that starts at the first of them, or where its use of
+-- the block before goes on into that one's; else a row opens there.
+abbrev pub IsEntered : Places → Places → ℕ → ℕ → ℕ → ℕ → Bool → Bool → Type 0
+IsEntered old new file first last pid write goes_on =
+    ((start : ℕ) × IsStartOf old file first start × ((start ≡ first) ⊎ (goes_on ≡ true))
+        × ((hs : List Holding) → old file start ≡ Some hs
+        → Puts old new file start (Some (with_use pid write last hs))))
+    ⊎ ((before : Option ℕ) × IsRowOf old file first before
+        × Opens old new file before first pid write last)
+
+-- a row of somebody
+abbrev pub some_if : List Holding → Option (List Holding)
+some_if [] = None
+some_if (h ∷ hs) = Some (h ∷ hs)
+
+-- what is left of a row where a process goes: no row where that is nobody
+abbrev pub left_of : ℕ → Bool → Option (List Holding) → Option (List Holding)
+left_of pid write None = None
+left_of pid write (Some hs) = some_if (without_use pid write hs)
+
+-- A process is in no row that starts in these blocks, and its use in the row before them ends before them.
+pub record IsLeft (old new : Places) (file first last pid : ℕ) (write : Bool) : Type 0 where
+  pub inside : (b : ℕ) → first ≤ b → b ≤ last → new file b ≡ left_of pid write (old file b)
+  pub before : (b start : ℕ) → suc b ≡ first → IsStartOf old file b start
+      → new file start ≡ option_map (λ hs. map (own_ended pid write first) hs) (old file start)
+  pub ahead : (b start y : ℕ) → suc b ≡ first → IsStartOf old file b start → y < first
+      → (y ≡ start → ⊥) → new file y ≡ old file y
+  pub none : (b : ℕ) → suc b ≡ first → IsRowOf old file b None → (y : ℕ) → y < first
+      → new file y ≡ old file y
+  pub behind : (b : ℕ) → last < b → new file b ≡ old file b
+  pub others : (f b : ℕ) → (f ≡ file → ⊥) → new f b ≡ old f b
 
 -- the same rows
 abbrev pub SamePlaces : Places → Places → Type 0
@@ -157,16 +194,6 @@ abbrev pub Leaves : Places → Places → ℕ → ℕ → ℕ → ℕ → Bool �
 Leaves old new file first last pid write = (f b q : ℕ) (w : Bool) → uses_at new f q w b
     ≡ (not (is_user pid write q w && is_within file first last f b) && uses_at old f q w b)
 
--- a row of somebody
-abbrev pub some_if : List Holding → Option (List Holding)
-some_if [] = None
-some_if (h ∷ hs) = Some (h ∷ hs)
-
--- what is left of a row where a process goes: no row where that is nobody
-abbrev pub left_of : ℕ → Bool → Option (List Holding) → Option (List Holding)
-left_of pid write None = None
-left_of pid write (Some hs) = some_if (without_use pid write hs)
-
 -- no use of a row has the first block of a row behind it
 pub record AreApart (rows : Places) : Type 0 where
   pub each : (file x y : ℕ) (hs gs : List Holding) → rows file x ≡ Some hs → rows file y ≡ Some gs
@@ -182,7 +209,9 @@ pub record AreRowsOf (lists : List (List Touch)) (rows : Places) : Type 0 where
   -- a process uses a block where its journal has it
   pub each : (file block pid : ℕ) (write : Bool) → uses_at rows file pid write block
       ≡ has_touch (Block file block) write (touched_by lists pid)
-  -- and stands in each row once
+  -- each touch stands once in its journal
+  pub once : (pid : ℕ) → distinct (touched_by lists pid) ≡ touched_by lists pid
+  -- and each process once in each row
   pub single : (file start : ℕ) (hs : List Holding) → rows file start ≡ Some hs → IsSingle hs
   pub apart : AreApart rows
   -- what a use has came one behind the other, so that it can be taken back from the end

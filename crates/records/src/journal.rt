@@ -1,9 +1,8 @@
 // The touches of one process, each once.
-ghost use Rattle.std.specs.Prelude.{◌≡◌, ◌+◌, ◌≤◌, ◌<◌, ◌^◌, ◌++◌, ◌∷◌, [], false, true, length, List};
+ghost use Rattle.std.specs.Prelude.{◌≡◌, ◌≤◌, ◌<◌, ◌++◌, [], false, true, length};
 ghost use Rattle.std.specs.Prelude.{OnOk, OnErr, IfErr, IfSome, IfNone};
-ghost use Rattle.std.specs.List.{AllByRecursion};
-ghost use Rattle.model.specs.Steps.{Touch as OfModel};
-ghost use Rattle.records.specs.Index.{has};
+ghost use Rattle.records.specs.Touches.{with_touches};
+ghost use Rattle.records.specs.Runs.{GoesOnBy, HaveTouches};
 ghost use Rattle.touches.specs.Expanded.{expanded, touches_of};
 
 use heap::Heap;
@@ -32,6 +31,7 @@ impl Drop for Journal {
 impl Model for Journal {
     ghost use Rattle.std.specs.Prelude.{◌≡◌, List, length};
     ghost use Rattle.model.specs.Steps.{Touch};
+    ghost use Rattle.records.specs.Runs.{HaveTouches};
     ghost use Rattle.records.specs.Touches.{distinct};
     ghost use Rattle.touches.specs.Expanded.{expanded};
 
@@ -40,11 +40,14 @@ impl Model for Journal {
     ghost view = { λ j. expanded j.entries.items };
 
     ghost invariant = { λ j. (distinct (expanded j.entries.items) ≡ expanded j.entries.items)
-        × (j.count ≡ length (expanded j.entries.items)) };
+        × (j.count ≡ length (expanded j.entries.items)) × HaveTouches j.entries.items };
 }
 
 /// Blocks and those that stand right behind them, as one.
-fn joined(before: &Touched, blocks: Blocks) -> Option<Blocks> {
+fn joined(before: &Touched, blocks: Blocks) -> Option<Blocks>
+    ensures { IfSome result (λ both. touches_of (Touched.Blocks both)
+        ≡ touches_of before.now ++ touches_of (Touched.Blocks blocks)) }
+{
     let Touched::Blocks(before) = before else {
         return None;
     };
@@ -73,7 +76,12 @@ fn goes_on(entries: &[Touched], blocks: Blocks) -> bool {
 }
 
 /// The last entry goes on by these blocks, and the answer is whether it does. It takes no memory.
-fn join_last(entries: &mut Entries, blocks: Blocks) -> bool {
+fn join_last(entries: &mut Entries, blocks: Blocks) -> bool
+    ensures yes { result ≡ true → expanded entries.new.items
+        ≡ expanded entries.old.items ++ touches_of (Touched.Blocks blocks) }
+    ensures no { result ≡ false → entries.new.items ≡ entries.old.items }
+    ensures any { HaveTouches entries.old.items → HaveTouches entries.new.items }
+{
     let count = entries.len();
     if count == 0 {
         return false;
@@ -88,7 +96,14 @@ fn join_last(entries: &mut Entries, blocks: Blocks) -> bool {
 }
 
 /// An entry more at the end. Refused memory gives it back and changes nothing.
-fn push_entry(entries: &mut Entries, touched: Touched) -> Result<(), Touched> {
+fn push_entry(entries: &mut Entries, touched: Touched) -> Result<(), Touched>
+    ensures ok { OnOk result (expanded entries.new.items
+        ≡ expanded entries.old.items ++ touches_of touched) }
+    ensures back { IfErr result (λ t. t ≡ touched) }
+    ensures err { OnErr result (entries.new.items ≡ entries.old.items) }
+    ensures any { 0 < length (touches_of touched) → HaveTouches entries.old.items
+        → HaveTouches entries.new.items }
+{
     if let Touched::Blocks(blocks) = &touched {
         if join_last(entries, *blocks) {
             return Ok(());
@@ -103,6 +118,9 @@ fn push_entry(entries: &mut Entries, touched: Touched) -> Result<(), Touched> {
 /// Blocks without so many of the last, and these.
 fn cut(blocks: Blocks, gone: u32) -> (Blocks, Blocks)
     requires { gone ≤ blocks.count }
+    ensures both { touches_of (Touched.Blocks blocks)
+        ≡ touches_of (Touched.Blocks result.0) ++ touches_of (Touched.Blocks result.1) }
+    ensures count { result.1.count ≡ gone }
 {
     let kept = blocks.count - gone;
     let Blocks {
@@ -124,7 +142,15 @@ fn cut(blocks: Blocks, gone: u32) -> (Blocks, Blocks)
 }
 
 /// Takes the last entry away, or so many of its last blocks, where it has more. It takes no memory.
-fn pop_entry(entries: &mut Entries, most: u128) -> Option<Touched> {
+fn pop_entry(entries: &mut Entries, most: u128) -> Option<Touched>
+    requires { 0 < most }
+    ensures some { IfSome result (λ t. expanded entries.old.items
+        ≡ expanded entries.new.items ++ touches_of t) }
+    ensures any { HaveTouches entries.old.items → IfSome result (λ t. 0 < length (touches_of t)) }
+    ensures left { HaveTouches entries.old.items → HaveTouches entries.new.items }
+    ensures few { IfSome result (λ t. length (touches_of t) ≤ most) }
+    ensures none { IfNone result (entries.old.items ≡ []) }
+{
     let last = entries.len().checked_sub(1)?;
     if let Touched::Blocks(blocks) = &entries[last] {
         if u128::from(blocks.count) > most {
@@ -162,13 +188,17 @@ impl Journal {
     }
 
     /// Whether these blocks stand right behind those that came last.
-    pub fn goes_on(&self, blocks: Blocks) -> bool {
+    pub fn goes_on(&self, blocks: Blocks) -> bool
+        ensures { result ≡ true → GoesOnBy self.now blocks.file blocks.first blocks.write }
+    {
         goes_on(self.entries.as_slice(), blocks)
     }
 
     /// Touches that are not there yet, at the end. Refused memory gives them back and changes
     /// nothing.
     pub fn push(&mut self, touched: Touched) -> Result<(), Touched>
+        requires some { 0 < length (touches_of touched) }
+        requires new { with_touches self.old (touches_of touched) ≡ self.old ++ touches_of touched }
         ensures ok { OnOk result (self.new ≡ self.old ++ touches_of touched) }
         ensures back { IfErr result (λ t. t ≡ touched) }
         ensures err { OnErr result (self.new ≡ self.old) }
@@ -184,6 +214,10 @@ impl Journal {
     pub fn pop(&mut self, most: u128) -> Option<Touched>
         requires { 0 < most }
         ensures some { IfSome result (λ t. self.old ≡ self.new ++ touches_of t) }
+        ensures any { IfSome result (λ t. 0 < length (touches_of t)) }
+        ensures few { IfSome result (λ t. length (touches_of t) ≤ most) }
+        ensures new { IfSome result (λ t.
+            with_touches self.new (touches_of t) ≡ self.new ++ touches_of t) }
         ensures none { IfNone result (self.old ≡ []) }
     {
         let touched = pop_entry(&mut self.entries, most)?;

@@ -1,8 +1,9 @@
 // The touches of all processes, and how many processes have touched something.
-ghost use Rattle.std.specs.Prelude.{◌≡◌, ◌≢◌, ℕ, ◌-◌, ◌<◌, ◌++◌, ◌∷◌, [], false, length};
+ghost use Rattle.std.specs.Prelude.{◌≡◌, ◌≢◌, ℕ, ◌-◌, ◌<◌, ◌≤◌, ◌++◌, ◌∷◌, [], false, true, length};
 ghost use Rattle.std.specs.Prelude.{take, set, IfErr, OnOk, OnErr};
-ghost use Rattle.records.specs.Index.{has};
-ghost use Rattle.records.specs.Touches.{touched_by};
+ghost use Rattle.records.specs.Active.{is_active};
+ghost use Rattle.records.specs.Runs.{GoesOnBy};
+ghost use Rattle.records.specs.Touches.{touched_by, with_touches};
 ghost use Rattle.touches.specs.Expanded.{expanded, touches_of};
 
 use crate::journal::Journal;
@@ -43,6 +44,9 @@ impl Model for Journals {
 /// changes nothing.
 fn push_to(journals: &mut List, pid: Pid, touched: Touched) -> Result<(), Touched>
     requires within { pid < length journals.old.items }
+    requires some { 0 < length (touches_of touched) }
+    requires new { with_touches (touched_by journals.old.items pid) (touches_of touched)
+        ≡ touched_by journals.old.items pid ++ touches_of touched }
     ensures ok { OnOk result (journals.new.items
         ≡ set journals.old.items pid (touched_by journals.old.items pid ++ touches_of touched)) }
     ensures back { IfErr result (λ t. t ≡ touched) }
@@ -56,6 +60,14 @@ fn pop_from(journals: &mut List, pid: Pid, most: u128) -> Touched
     requires within { pid < length journals.old.items }
     requires most { 0 < most }
     requires some { 0 < length (touched_by journals.old.items pid) }
+    ensures journals { journals.new.items
+        ≡ set journals.old.items pid (touched_by journals.new.items pid) }
+    ensures last { touched_by journals.old.items pid
+        ≡ touched_by journals.new.items pid ++ touches_of result }
+    ensures any { 0 < length (touches_of result) }
+    ensures few { length (touches_of result) ≤ most }
+    ensures new { with_touches (touched_by journals.new.items pid) (touches_of result)
+        ≡ touched_by journals.new.items pid ++ touches_of result }
 {
     journals[pid.0 as usize].pop(most).unwrap()
 }
@@ -122,7 +134,9 @@ impl Journals {
     }
 
     /// Whether a process has touched something.
-    fn has_touched(&self, pid: Pid) -> bool {
+    fn has_touched(&self, pid: Pid) -> bool
+        ensures { result ≡ is_active (touched_by self.now pid) }
+    {
         match self.list.get(pid.0 as usize) {
             Some(journal) => journal.count() > 0,
             None => false,
@@ -130,7 +144,10 @@ impl Journals {
     }
 
     /// Whether these blocks stand right behind those that a process touched last.
-    pub fn goes_on(&self, pid: Pid, blocks: Blocks) -> bool {
+    pub fn goes_on(&self, pid: Pid, blocks: Blocks) -> bool
+        ensures { result ≡ true
+            → GoesOnBy (touched_by self.now pid) blocks.file blocks.first blocks.write }
+    {
         match self.list.get(pid.0 as usize) {
             Some(journal) => journal.goes_on(blocks),
             None => false,
@@ -149,6 +166,9 @@ impl Journals {
     /// nothing.
     pub fn push(&mut self, pid: Pid, touched: Touched) -> Result<(), Touched>
         requires within { pid < length self.old }
+        requires some { 0 < length (touches_of touched) }
+        requires new { with_touches (touched_by self.old pid) (touches_of touched)
+            ≡ touched_by self.old pid ++ touches_of touched }
         ensures ok { OnOk result (self.new
             ≡ set self.old pid (touched_by self.old pid ++ touches_of touched)) }
         ensures back { IfErr result (λ t. t ≡ touched) }
@@ -170,6 +190,12 @@ impl Journals {
         requires within { pid < length self.old }
         requires most { 0 < most }
         requires some { 0 < length (touched_by self.old pid) }
+        ensures journals { self.new ≡ set self.old pid (touched_by self.new pid) }
+        ensures last { touched_by self.old pid ≡ touched_by self.new pid ++ touches_of result }
+        ensures any { 0 < length (touches_of result) }
+        ensures few { length (touches_of result) ≤ most }
+        ensures new { with_touches (touched_by self.new pid) (touches_of result)
+            ≡ touched_by self.new pid ++ touches_of result }
     {
         let touched = pop_from(&mut self.list, pid, most);
         self.active -= usize::from(self.count(pid) == 0);

@@ -1,6 +1,10 @@
 // A process's touches in its journal, with its uses in the index.
-ghost use Rattle.std.specs.Prelude.{◌≡◌, ◌<◌, ◌≤◌, set, length, OnOk, OnErr};
+ghost use Rattle.std.specs.Prelude.{◌≡◌, suc, ◌+◌, ◌-◌, ◌<◌, ◌≤◌, ◌++◌, false, set, length, List};
+ghost use Rattle.std.specs.Prelude.{OnOk, OnErr};
+ghost use Rattle.model.specs.Steps.{Touch as OfModel};
 ghost use Rattle.records.specs.Index.{IsIndexed, ListsWritten};
+ghost use Rattle.records.specs.Rows.{Places, places_of, uses_at, is_block_aspect, all_without_blocks};
+ghost use Rattle.records.specs.Rows.{HaveNoStart, AreRowsOf};
 ghost use Rattle.records.specs.Touches.{touched_by, with_touch, with_touches};
 ghost use Rattle.touches.specs.Expanded.{touches_of};
 
@@ -22,11 +26,13 @@ pub fn note_one(
     touch: Touch,
 ) -> Result<(), AllocError>
     requires within { pid < length journals.old }
-    requires indexed { IsIndexed journals.old index.old }
+    requires other { is_block_aspect touch.aspect ≡ false }
+    requires indexed { IsIndexed (all_without_blocks journals.old) index.old }
     ensures ok { OnOk result (journals.new
         ≡ set journals.old pid (with_touch (touched_by journals.old pid) touch)) }
     ensures err { OnErr result (journals.new ≡ journals.old) }
-    ensures indexed { IsIndexed journals.new index.new }
+    ensures indexed { IsIndexed (all_without_blocks journals.new) index.new }
+    ensures rows { (p : Places) → AreRowsOf journals.old p → AreRowsOf journals.new p }
     ensures listed { ListsWritten index.old → ListsWritten index.new }
 {
     if !enter(heap, index, pid, &touch)? {
@@ -69,7 +75,20 @@ fn note_part(
     pid: Pid,
     blocks: Blocks,
     last: u32,
-) -> Result<(), AllocError> {
+) -> Result<(), AllocError>
+    requires within { pid < length journals.old }
+    requires rows { AreRowsOf journals.old (places_of rows.old) }
+    requires some { blocks.first ≤ last }
+    requires count { blocks.count ≡ (last + 1) - blocks.first }
+    requires whole { HaveNoStart (places_of rows.old) blocks.file (suc blocks.first) last }
+    requires free { uses_at (places_of rows.old) blocks.file pid blocks.write blocks.first ≡ false }
+    ensures ok { OnOk result (journals.new ≡ set journals.old pid
+        (touched_by journals.old pid ++ touches_of (Touched.Blocks blocks))) }
+    ensures err { OnErr result (journals.new ≡ journals.old) }
+    ensures rows { AreRowsOf journals.new (places_of rows.new) }
+    ensures indexed { (i : Index) → IsIndexed (all_without_blocks journals.old) i
+        → IsIndexed (all_without_blocks journals.new) i }
+{
     let user = user_of(pid, blocks);
     let goes_on = journals.goes_on(pid, blocks);
     enter_part(heap, rows, user, blocks.first, last, goes_on)?;
@@ -90,7 +109,17 @@ pub fn note_blocks(
     rows: &mut Rows,
     pid: Pid,
     blocks: Blocks,
-) -> Result<(), AllocError> {
+) -> Result<(), AllocError>
+    requires within { pid < length journals.old }
+    requires rows { AreRowsOf journals.old (places_of rows.old) }
+    ensures ok { OnOk result (journals.new ≡ set journals.old pid
+        (with_touches (touched_by journals.old pid) (touches_of (Touched.Blocks blocks)))) }
+    ensures some { (ts : List OfModel) × (journals.new ≡ set journals.old pid
+        (with_touches (touched_by journals.old pid) ts)) }
+    ensures rows { AreRowsOf journals.new (places_of rows.new) }
+    ensures indexed { (i : Index) → IsIndexed (all_without_blocks journals.old) i
+        → IsIndexed (all_without_blocks journals.new) i }
+{
     if blocks.count == 0 {
         return Ok(());
     }

@@ -1,9 +1,11 @@
 // All touches of all live transactions.
 ghost use Rattle.std.specs.Prelude.{◌≡◌, ◌≢◌, ℕ, ◌-◌, ◌<◌, ◌≤◌, ◌++◌, ◌∷◌, [], false, length};
-ghost use Rattle.std.specs.Prelude.{suc, take, set, IfOk, IfSome, IfNone, OnOk, OnErr};
+ghost use Rattle.std.specs.Prelude.{suc, List, take, set, IfOk, IfSome, IfNone, OnOk, OnErr};
 ghost use Rattle.records.specs.Holders.{AreHolders, GoesOn};
 ghost use Rattle.records.specs.Index.{IsIndexed, ListsWritten};
+ghost use Rattle.records.specs.Runs.{IsShorter};
 ghost use Rattle.records.specs.Touches.{touched_by, with_touches};
+ghost use Rattle.model.specs.Steps.{Touch as OfModel};
 ghost use Rattle.touches.specs.Expanded.{expanded, touches_of};
 
 use crate::holders::collect;
@@ -147,7 +149,13 @@ impl Records {
 
     /// Blocks more of a process, but those that it has already. Refused memory may leave some of
     /// them.
-    fn add_blocks(&mut self, pid: Pid, blocks: Blocks) -> Result<(), AllocError> {
+    fn add_blocks(&mut self, pid: Pid, blocks: Blocks) -> Result<(), AllocError>
+        requires { pid < length self.old }
+        ensures ok { OnOk result (self.new ≡ set self.old pid
+            (with_touches (touched_by self.old pid) (touches_of (Touched.Blocks blocks)))) }
+        ensures some { (ts : List OfModel) × (self.new
+            ≡ set self.old pid (with_touches (touched_by self.old pid) ts)) }
+    {
         note_blocks(self.heap, &mut self.journals, &mut self.rows, pid, blocks)
     }
 
@@ -157,6 +165,8 @@ impl Records {
         requires { pid < length self.old }
         ensures ok { OnOk result (self.new
             ≡ set self.old pid (with_touches (touched_by self.old pid) (touches_of touched))) }
+        ensures some { (ts : List OfModel) × (self.new
+            ≡ set self.old pid (with_touches (touched_by self.old pid) ts)) }
     {
         match touched {
             Touched::One(touch) => match touch.aspect {
@@ -173,6 +183,7 @@ impl Records {
         requires within { pid < length self.old }
         requires most { 0 < most }
         requires some { 0 < length (touched_by self.old pid) }
+        ensures { IsShorter self.old self.new pid most }
     {
         match self.journals.pop(pid, most) {
             Touched::One(touch) => match &touch.aspect {

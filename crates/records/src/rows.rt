@@ -5,6 +5,7 @@ ghost use Rattle.std.specs.Option.{option_copied};
 ghost use Rattle.records.specs.Rows.{places_of, row_at, uses_at, holdings_of};
 ghost use Rattle.records.specs.Rows.{IsStartOf, IsFirstStart, HaveNoStart};
 ghost use Rattle.records.specs.Rows.{with_use, has_block, left_of, Puts, Opens, SamePlaces};
+ghost use Rattle.records.specs.Rows.{IsEntered, IsLeft};
 ghost use Rattle.records.specs.declared.row.Holding.{Holding};
 
 use crate::row::Row;
@@ -191,7 +192,11 @@ pub fn enter_part(
     first: u32,
     last: u32,
     goes_on: bool,
-) -> Result<(), AllocError> {
+) -> Result<(), AllocError>
+    ensures ok { OnOk result (IsEntered (places_of rows.old) (places_of rows.new) user.file first last
+        user.pid user.write goes_on) }
+    ensures err { OnErr result (SamePlaces (places_of rows.old) (places_of rows.new)) }
+{
     match start_of(rows, user.file, first) {
         Some(start) if start == first || goes_on => put_in(rows, user, start, last),
         before => open_row(heap, rows, user, before, first, last),
@@ -231,6 +236,7 @@ fn end_before(rows: &mut Rows, user: User, block: u32) {
 /// It takes no memory, and a look-up for each row.
 pub fn leave_blocks(rows: &mut Rows, user: User, first: u32, last: u32)
     requires { first ≤ last }
+    ensures { IsLeft (places_of rows.old) (places_of rows.new) user.file first last user.pid user.write }
 {
     end_before(rows, user, first);
     let mut from = first;
