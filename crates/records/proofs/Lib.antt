@@ -20,3 +20,4 @@ mod Suffix
 mod Leaving
 mod Journaled
 mod Together
+mod Unblocked

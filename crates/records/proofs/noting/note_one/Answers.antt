@@ -1,7 +1,7 @@
 use Rattle.std.proofs.Common.{◌∙◌, sym}
 use Rattle.records.specs.Marks.{mark_of}
 use Rattle.records.proofs.Indexing.{indexed_added, indexed_again, indexed_back, noted_again, noted_new, not_false, not_true}
-use Rattle.records.proofs.records.note.Goals as goal
+use Rattle.records.proofs.noting.note_one.Goals as goal
 
 pub returns-then-not-branch-clause-ok : goal.returns-then-not-branch-clause-ok
 returns-then-not-branch-clause-ok c = noted_again c.args.journals.now c.args.touch c.args.pid (sym (c.requires.indexed.each (mark_of c.args.pid c.args.touch)) ∙ not_false _ _ c.in_ok-enter.ensures.new c.if-not-branch.true)
