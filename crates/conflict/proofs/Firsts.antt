@@ -49,8 +49,8 @@ met_by : (test : ℕ → Bool) (c d : Clash) (xs : List Clash) (b e : Bool) → 
 met_by test c d xs b true same is met rest = refl
 met_by test c d xs false false same is met rest = rest met
 met_by test c d xs true false same is met rest =
-    let no : test c.other ≡ false = ap test (sym (eqb-true d.other c.other same)) ∙ is in
-    ap (λ v. option_or (first_with test xs) (if v then Some c else None)) no ∙ option_none (first_with test xs)
+    let off : test c.other ≡ false = ap test (sym (eqb-true d.other c.other same)) ∙ is in
+    ap (λ v. option_or (first_with test xs) (if v then Some c else None)) off ∙ option_none (first_with test xs)
 
 first_met : (test : ℕ → Bool) (c : Clash) (xs : List Clash) → is_met c.other xs ≡ true → option_or (first_with test xs) (if test c.other then Some c else None) ≡ first_with test xs
 first_met test c [] met = absurd (false≢true met)

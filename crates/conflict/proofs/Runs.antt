@@ -33,10 +33,10 @@ next_clashes lists t (c ∷ cs) = if keeps lists t c then moved t c ∷ next_cla
 
 next_mine : (lists : List (List Touch)) (t : Touch) (cs : List Clash) → AllByRecursion (λ c. c.mine ≡ t) (next_clashes lists t cs)
 next_mine lists t [] = tt
-next_mine lists t (c ∷ cs) = by (keeps lists t c) where
-  by : (b : Bool) → AllByRecursion (λ c. c.mine ≡ t) (if b then moved t c ∷ next_clashes lists t cs else next_clashes lists t cs)
-  by true = (refl, next_mine lists t cs)
-  by false = next_mine lists t cs
+next_mine lists t (c ∷ cs) = by (keeps lists t c) (next_mine lists t cs) where
+  by : (b : Bool) → AllByRecursion (λ c. c.mine ≡ t) (next_clashes lists t cs) → AllByRecursion (λ c. c.mine ≡ t) (if b then moved t c ∷ next_clashes lists t cs else next_clashes lists t cs)
+  by true rest = (refl, rest)
+  by false rest = rest
 
 -- all of a block's clashes are on it
 abbrev AllOn : ℕ → ℕ → List Clash → Type 0
@@ -91,23 +91,18 @@ moved_before f b w c d on also h =
 moved_before_all : (lists : List (List Touch)) (f b : ℕ) (w : Bool) (c : Clash) (ds : List Clash) → c.theirs.aspect ≡ Block f b → AllOn f b ds → AllByRecursion (λ d. is_before (block_touch f b w) c d ≡ true) ds
     → AllByRecursion (λ d. is_before (block_touch f (suc b) w) (moved (block_touch f (suc b) w) c) d ≡ true) (next_clashes lists (block_touch f (suc b) w) ds)
 moved_before_all lists f b w c [] on all h = tt
-moved_before_all lists f b w c (d ∷ ds) on all h = by (keeps lists (block_touch f (suc b) w) d) where
-  rest : AllByRecursion (λ d. is_before (block_touch f (suc b) w) (moved (block_touch f (suc b) w) c) d ≡ true) (next_clashes lists (block_touch f (suc b) w) ds)
-  rest = moved_before_all lists f b w c ds on all.1 h.1
-
-  by : (k : Bool) → AllByRecursion (λ d. is_before (block_touch f (suc b) w) (moved (block_touch f (suc b) w) c) d ≡ true) (if k then moved (block_touch f (suc b) w) d ∷ next_clashes lists (block_touch f (suc b) w) ds else next_clashes lists (block_touch f (suc b) w) ds)
-  by true = (moved_before f b w c d on all.0 h.0, rest)
-  by false = rest
+moved_before_all lists f b w c (d ∷ ds) on all h = by (keeps lists (block_touch f (suc b) w) d) (moved_before_all lists f b w c ds on all.1 h.1) where
+  by : (k : Bool) → AllByRecursion (λ d. is_before (block_touch f (suc b) w) (moved (block_touch f (suc b) w) c) d ≡ true) (next_clashes lists (block_touch f (suc b) w) ds)
+      → AllByRecursion (λ d. is_before (block_touch f (suc b) w) (moved (block_touch f (suc b) w) c) d ≡ true) (if k then moved (block_touch f (suc b) w) d ∷ next_clashes lists (block_touch f (suc b) w) ds else next_clashes lists (block_touch f (suc b) w) ds)
+  by true rest = (moved_before f b w c d on all.0 h.0, rest)
+  by false rest = rest
 
 next_order : (lists : List (List Touch)) (f b : ℕ) (w : Bool) (cs : List Clash) → AllOn f b cs → AreInOrder (block_touch f b w) cs → AreInOrder (block_touch f (suc b) w) (next_clashes lists (block_touch f (suc b) w) cs)
 next_order lists f b w [] all h = tt
-next_order lists f b w (c ∷ cs) all h = by (keeps lists (block_touch f (suc b) w) c) where
-  rest : AreInOrder (block_touch f (suc b) w) (next_clashes lists (block_touch f (suc b) w) cs)
-  rest = next_order lists f b w cs all.1 h.1
-
-  by : (k : Bool) → AreInOrder (block_touch f (suc b) w) (if k then moved (block_touch f (suc b) w) c ∷ next_clashes lists (block_touch f (suc b) w) cs else next_clashes lists (block_touch f (suc b) w) cs)
-  by true = (moved_before_all lists f b w c cs all.0 all.1 h.0, rest)
-  by false = rest
+next_order lists f b w (c ∷ cs) all h = by (keeps lists (block_touch f (suc b) w) c) (next_order lists f b w cs all.1 h.1) where
+  by : (k : Bool) → AreInOrder (block_touch f (suc b) w) (next_clashes lists (block_touch f (suc b) w) cs) → AreInOrder (block_touch f (suc b) w) (if k then moved (block_touch f (suc b) w) c ∷ next_clashes lists (block_touch f (suc b) w) cs else next_clashes lists (block_touch f (suc b) w) cs)
+  by true rest = (moved_before_all lists f b w c cs all.0 all.1 h.0, rest)
+  by false rest = rest
 
 -- which of them are found
 
@@ -160,16 +155,16 @@ found_next lists f b q w v (c ∷ cs) all =
 -- and none on any other aspect
 found_off : (lists : List (List Touch)) (q : ℕ) (t u : Touch) (cs : List Clash) → same_aspect t.aspect u.aspect ≡ false → is_found q u (next_clashes lists t cs) ≡ false
 found_off lists q t u [] off = refl
-found_off lists q t u (c ∷ cs) off = by (keeps lists t c) where
+found_off lists q t u (c ∷ cs) off = by (keeps lists t c) (found_off lists q t u cs off) where
   none : (b : Bool) → (b && false) ≡ false
   none true = refl
   none false = refl
 
-  by : (k : Bool) → is_found q u (if k then moved t c ∷ next_clashes lists t cs else next_clashes lists t cs) ≡ false
-  by true = ap (λ s. ((c.other == q) && ((s && (if u.write then c.theirs.write else not c.theirs.write)) || false)) || is_found q u (next_clashes lists t cs)) off
+  by : (k : Bool) → is_found q u (next_clashes lists t cs) ≡ false → is_found q u (if k then moved t c ∷ next_clashes lists t cs else next_clashes lists t cs) ≡ false
+  by true rest = ap (λ s. ((c.other == q) && ((s && (if u.write then c.theirs.write else not c.theirs.write)) || false)) || is_found q u (next_clashes lists t cs)) off
       ∙ ap (λ s. s || is_found q u (next_clashes lists t cs)) (none (c.other == q))
-      ∙ found_off lists q t u cs off
-  by false = found_off lists q t u cs off
+      ∙ rest
+  by false rest = rest
 
 weigh : (n c here there : Bool) → (there ≡ true → here ≡ true) → ((n && (c && here)) && there) ≡ (n && (c && there))
 weigh n c true true h = fits n c where
@@ -230,11 +225,11 @@ some_not_none c h = cc
 
 next_nobody : (lists : List (List Touch)) (t : Touch) (test : ℕ → Bool) (cs : List Clash) → first_with test cs ≡ None → first_with test (next_clashes lists t cs) ≡ None
 next_nobody lists t test [] none = refl
-next_nobody lists t test (c ∷ cs) none = by (test c.other) (keeps lists t c) refl none where
-  by : (b k : Bool) → test c.other ≡ b → (if b then Some c else first_with test cs) ≡ None → first_with test (if k then moved t c ∷ next_clashes lists t cs else next_clashes lists t cs) ≡ None
-  by true k is h = absurd (some_not_none c h)
-  by false true is h = ap (λ b. if b then Some (moved t c) else first_with test (next_clashes lists t cs)) is ∙ next_nobody lists t test cs h
-  by false false is h = next_nobody lists t test cs h
+next_nobody lists t test (c ∷ cs) none = by (test c.other) (keeps lists t c) refl none (next_nobody lists t test cs) where
+  by : (b k : Bool) → test c.other ≡ b → (if b then Some c else first_with test cs) ≡ None → (first_with test cs ≡ None → first_with test (next_clashes lists t cs) ≡ None) → first_with test (if k then moved t c ∷ next_clashes lists t cs else next_clashes lists t cs) ≡ None
+  by true k is h rest = absurd (some_not_none c h)
+  by false true is h rest = ap (λ b. if b then Some (moved t c) else first_with test (next_clashes lists t cs)) is ∙ rest h
+  by false false is h rest = rest h
 
 -- blocks of which whoever touched one touched the one before it too, from a block on whose clashes are known
 pub record IsFlat (lists : List (List Touch)) (pid f b k : ℕ) (w : Bool) (own all last : List Clash) : Type 0 where

@@ -21,24 +21,24 @@ use Rattle.contention.proofs.Reached.{all_ranked}
 -- the loss, who is met, and by which touch are told by first clashes
 cause_first : (own : Rank) (ranks : List Rank) (cs : List Clash) → cause_of_loss own ranks cs ≡ option_map (λ c. record { touch = c.mine; other = c.other }) (first_with (λ q. yields_to own (rank_at ranks q)) cs)
 cause_first own ranks [] = refl
-cause_first own ranks (c ∷ cs) = by (yields_to own (rank_at ranks c.other)) where
-  by : (b : Bool) → (if b then Some (record { touch = c.mine; other = c.other }) else cause_of_loss own ranks cs) ≡ option_map (λ d. record { touch = d.mine; other = d.other }) (if b then Some c else first_with (λ q. yields_to own (rank_at ranks q)) cs)
-  by true = refl
-  by false = cause_first own ranks cs
+cause_first own ranks (c ∷ cs) = by (yields_to own (rank_at ranks c.other)) (cause_first own ranks cs) where
+  by : (b : Bool) → cause_of_loss own ranks cs ≡ option_map (λ d. record { touch = d.mine; other = d.other }) (first_with (λ q. yields_to own (rank_at ranks q)) cs) → (if b then Some (record { touch = c.mine; other = c.other }) else cause_of_loss own ranks cs) ≡ option_map (λ d. record { touch = d.mine; other = d.other }) (if b then Some c else first_with (λ q. yields_to own (rank_at ranks q)) cs)
+  by true rest = refl
+  by false rest = rest
 
 touch_first : (q : ℕ) (cs : List Clash) → first_touch q cs ≡ option_map (λ c. c.theirs) (first_with (λ p. p == q) cs)
 touch_first q [] = refl
-touch_first q (c ∷ cs) = by (c.other == q) where
-  by : (b : Bool) → (if b then Some c.theirs else first_touch q cs) ≡ option_map (λ d. d.theirs) (if b then Some c else first_with (λ p. p == q) cs)
-  by true = refl
-  by false = touch_first q cs
+touch_first q (c ∷ cs) = by (c.other == q) (touch_first q cs) where
+  by : (b : Bool) → first_touch q cs ≡ option_map (λ d. d.theirs) (first_with (λ p. p == q) cs) → (if b then Some c.theirs else first_touch q cs) ≡ option_map (λ d. d.theirs) (if b then Some c else first_with (λ p. p == q) cs)
+  by true rest = refl
+  by false rest = rest
 
 with_first : (q : ℕ) (cs : List Clash) → is_with q cs ≡ is_some (first_with (λ p. p == q) cs)
 with_first q [] = refl
-with_first q (c ∷ cs) = by (c.other == q) where
-  by : (b : Bool) → (b || is_with q cs) ≡ is_some (if b then Some c else first_with (λ p. p == q) cs)
-  by true = refl
-  by false = with_first q cs
+with_first q (c ∷ cs) = by (c.other == q) (with_first q cs) where
+  by : (b : Bool) → is_with q cs ≡ is_some (first_with (λ p. p == q) cs) → (b || is_with q cs) ≡ is_some (if b then Some c else first_with (λ p. p == q) cs)
+  by true rest = refl
+  by false rest = rest
 
 -- so they are the same by the first clash with each process
 module _ (all found : List Clash) (first : AreFirstsOf all found) where

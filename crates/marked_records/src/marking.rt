@@ -1,11 +1,11 @@
 // What touches mark at directories, and the holder table after each.
-ghost use Rattle.std.specs.Prelude.{◌≡◌, ℕ, ◌==◌, ◌&&◌, if◌then◌else◌, OnOk, OnErr, take};
+ghost use Rattle.std.specs.Prelude.{◌≡◌, ℕ, ◌≤◌, ◌==◌, ◌&&◌, if◌then◌else◌, OnOk, OnErr, take, length};
 ghost use Rattle.std.specs.List.{list_any};
 ghost use Rattle.model.specs.Modes.{reads_names};
 ghost use Rattle.list_modes.specs.Holding.{held_of, IsPartOf};
 ghost use Rattle.marked_records.specs.Marks.{changes_names, marks_of, marks_at, joined, is_mark_at};
 ghost use Rattle.marked_records.specs.Marks.{SetsMarks, IsBetween};
-ghost use Rattle.touches.specs.Expanded.{expanded};
+ghost use Rattle.touches.specs.Expanded.{expanded, touches_of};
 
 use ids::{Aspect, Num, Pid, Touch};
 use list_modes::{Held, Holders};
@@ -73,7 +73,11 @@ fn mark(holders: &mut Holders, pid: Pid, touch: &Touch) -> Result<(), AllocError
 }
 
 /// The same of touches of an entry of a journal.
-pub fn mark_one(holders: &mut Holders, pid: Pid, touched: &Touched) -> Result<(), AllocError> {
+pub fn mark_one(holders: &mut Holders, pid: Pid, touched: &Touched) -> Result<(), AllocError>
+    ensures ok { OnOk result (SetsMarks holders.old holders.new pid
+        (λ d. joined (held_of holders.old pid d) (marks_at d (touches_of touched.now)))) }
+    ensures err { OnErr result (holders.new ≡ holders.old) }
+{
     match touched {
         Touched::One(touch) => mark(holders, pid, touch),
         Touched::Blocks(_) => Ok(()),
@@ -96,7 +100,11 @@ pub fn unmark(holders: &mut Holders, pid: Pid, touch: &Touch, kept: &[Touched])
 
 /// How many entries of a journal have its first so many touches. Those of a part of blocks have the
 /// whole entry, which marks nothing.
-pub fn entries_of(touches: &[Touched], count: u128) -> usize {
+pub fn entries_of(touches: &[Touched], count: u128) -> usize
+    ensures within { result ≤ length touches.now }
+    ensures same { (d : ℕ) → marks_at d (expanded (take result touches.now))
+        ≡ marks_at d (take count (expanded touches.now)) }
+{
     let mut left = count;
     for i in 0..touches.len() {
         if left == 0 {

@@ -54,11 +54,11 @@ one_more p f s b none before y from to = elim (cases_eq y (suc b)) [
 
 started : (p n : Places) (f s last b : ℕ) (old : Option (List Holding)) (new : List Holding) (o : Option (List Holding)) → p f (suc b) ≡ o → n f (suc b) ≡ o → (suc b ≤ last → o ≡ None) → Follows p n f s last b old new → Follows p n f s last (suc b) old new
 started p n f s last b old new (Some gs) was is none before = by (nat_le (suc b) last) refl where
-  no : Some gs ≡ None → ⊥
-  no e = cc
+  off : Some gs ≡ None → ⊥
+  off e = cc
 
   by : (t : Bool) → nat_le (suc b) last ≡ t → Follows p n f s last (suc b) old new
-  by true e = let le : suc b ≤ last = grind (arith, nat_tests) in absurd (no (none le))
+  by true e = let le : suc b ≤ last = grind (arith, nat_tests) in absurd (off (none le))
   by false e = let more : last < suc b = grind (arith, nat_tests) in inr (ap (λ x. option_or x (row_at n f b)) is ∙ sym (ap (λ x. option_or x (row_at p f b)) was), more)
 started p n f s last b old new None was is none before = elim before [
   | inl here ↦ inl (ap (λ x. option_or x (row_at n f b)) is ∙ here.0, ap (λ x. option_or x (row_at p f b)) was ∙ here.1, one_more p f s b was here.2)
@@ -105,11 +105,11 @@ copied p n f s first hs puts is = same_by_row p n f first (Some hs) (filter (has
 -- and end before it in their own.
 pub cut_off : (p n : Places) (f s first : ℕ) (hs gs : List Holding) → 0 < first → s < first → p f first ≡ Some gs → p f s ≡ Some hs → Puts p n f s (Some (map (ended first) hs)) → (g b q : ℕ) (w : Bool) → uses_at n g q w b ≡ uses_at p g q w b
 cut_off p n f s first hs gs some lt starts is puts = same_by_row p n f s (Some hs) (map (ended first) hs) puts (row_here p f s hs is) (λ b q w le none. by b q w none (nat_le first b) refl) where
-  no : Some gs ≡ None → ⊥
-  no e = cc
+  off : Some gs ≡ None → ⊥
+  off e = cc
 
   by : (b q : ℕ) (w : Bool) → HaveNoStart p f (suc s) b → (t : Bool) → nat_le first b ≡ t → uses q w b (map (ended first) hs) ≡ uses q w b hs
-  by b q w none true e = let le : first ≤ b = grind (arith, nat_tests) in absurd (no (sym starts ∙ none first (omega arith) le))
+  by b q w none true e = let le : first ≤ b = grind (arith, nat_tests) in absurd (off (sym starts ∙ none first (omega arith) le))
   by b q w none false e = let less : b < first = grind (arith, nat_tests) in ended_uses first q b w hs less
 
 -- A row of nobody starts where none was.
@@ -122,7 +122,7 @@ module _ (p n : Places) (f s first last pid : ℕ) (v : Bool) (hs : List Holding
     (none : HaveNoStart p f (suc s) last) (from : s ≤ first) (to : first ≤ last)
     (before : (b : ℕ) → s ≤ b → b < first → uses pid v b hs ≡ true) (free : uses pid v first hs ≡ false) where
   -- what it used itself, and uses now
-  own_now : (b : ℕ) → s ≤ b → nat_le b last ≡ (nat_le first b && nat_le b last || uses pid v b hs)
+  own_now : (b : ℕ) → s ≤ b → nat_le b last ≡ ((nat_le first b && nat_le b last) || uses pid v b hs)
   own_now b le = elim (cases_eq (nat_le first b) true) [
     | inl e ↦ behind e
     | inr ne ↦ ahead ne
@@ -137,12 +137,12 @@ module _ (p n : Places) (f s first last pid : ℕ) (v : Bool) (hs : List Holding
     or_none true = refl
     or_none false = refl
 
-    behind : nat_le first b ≡ true → nat_le b last ≡ (nat_le first b && nat_le b last || uses pid v b hs)
+    behind : nat_le first b ≡ true → nat_le b last ≡ ((nat_le first b && nat_le b last) || uses pid v b hs)
     behind e =
         let ge : first ≤ b = grind (arith, nat_tests) in
         sym (ap (λ x. (x && nat_le b last) || uses pid v b hs) e ∙ ap (λ u. nat_le b last || u) (unused ge) ∙ or_none (nat_le b last))
 
-    ahead : (nat_le first b ≡ true → ⊥) → nat_le b last ≡ (nat_le first b && nat_le b last || uses pid v b hs)
+    ahead : (nat_le first b ≡ true → ⊥) → nat_le b last ≡ ((nat_le first b && nat_le b last) || uses pid v b hs)
     ahead ne =
         let lt : b < first = grind (arith, nat_tests) in
         let le_last : nat_le b last ≡ true = grind (arith, nat_tests) in
@@ -161,7 +161,7 @@ module _ (p n : Places) (f s first last pid : ℕ) (v : Bool) (hs : List Holding
     alike_is false false h = refl
 
     by : (u : Bool) → is_user pid v q w ≡ u → uses q w b (with_use pid v last hs) ≡ ((u && (nat_le first b && nat_le b last)) || uses q w b hs)
-    by false no = with_other pid last q b v w hs no
+    by false off = with_other pid last q b v w hs off
     by true own =
         let parts = and_parts (pid == q) (alike v w) own in
         let same : pid ≡ q = eqb-true pid q parts.0 in
@@ -174,17 +174,17 @@ module _ (p n : Places) (f s first last pid : ℕ) (v : Bool) (hs : List Holding
   in_file : (b q : ℕ) (w : Bool) → uses_at n f q w b ≡ ((is_user pid v q w && (nat_le first b && nat_le b last)) || uses_at p f q w b)
   in_file b q w = elim (cases_eq (nat_le s b) true) [
     | inl e ↦ on (grind (arith, nat_tests))
-    | inr ne ↦ off (grind (arith, nat_tests))
+    | inr ne ↦ ahead_of (grind (arith, nat_tests))
   ] where
     out : (a x : Bool) → x ≡ false → (a && x) ≡ false
     out true x e = e
     out false x e = refl
 
-    off : b < s → uses_at n f q w b ≡ ((is_user pid v q w && (nat_le first b && nat_le b last)) || uses_at p f q w b)
-    off lt =
-        let no : nat_le first b ≡ false = grind (arith, nat_tests) in
+    ahead_of : b < s → uses_at n f q w b ≡ ((is_user pid v q w && (nat_le first b && nat_le b last)) || uses_at p f q w b)
+    ahead_of lt =
+        let off : nat_le first b ≡ false = grind (arith, nat_tests) in
         ap (λ o. uses_in o q w b) (row_below p n f s (Some (with_use pid v last hs)) puts b lt)
-        ∙ sym (ap (λ x. x || uses_at p f q w b) (out (is_user pid v q w) (nat_le first b && nat_le b last) (ap (λ x. x && nat_le b last) no)))
+        ∙ sym (ap (λ x. x || uses_at p f q w b) (out (is_user pid v q w) (nat_le first b && nat_le b last) (ap (λ x. x && nat_le b last) off)))
 
     on : s ≤ b → uses_at n f q w b ≡ ((is_user pid v q w && (nat_le first b && nat_le b last)) || uses_at p f q w b)
     on le =
@@ -192,9 +192,9 @@ module _ (p n : Places) (f s first last pid : ℕ) (v : Bool) (hs : List Holding
           | inl here ↦ ap (λ o. uses_in o q w b) here.0 ∙ in_row b q w le ∙ sym (ap (λ o. (is_user pid v q w && (nat_le first b && nat_le b last)) || uses_in o q w b) here.1)
           | inr there ↦
               let far : last < b = there.1 in
-              let no : nat_le b last ≡ false = grind (arith, nat_tests) in
+              let off : nat_le b last ≡ false = grind (arith, nat_tests) in
               ap (λ o. uses_in o q w b) there.0
-              ∙ sym (ap (λ x. x || uses_at p f q w b) (out (is_user pid v q w) (nat_le first b && nat_le b last) (and_none (nat_le first b) (nat_le b last) no)))
+              ∙ sym (ap (λ x. x || uses_at p f q w b) (out (is_user pid v q w) (nat_le first b && nat_le b last) (and_none (nat_le first b) (nat_le b last) off)))
         ] where
       and_none : (a x : Bool) → x ≡ false → (a && x) ≡ false
       and_none true x h = h

@@ -3,7 +3,8 @@ use Rattle.std.proofs.Common.{◌≡◌, ◌∙◌, sym, ap, ℕ, ◌<◌, ◌�
 use Rattle.std.proofs.lemmas.List.{append-nil, get_or-set_same, set-set, take-take, length-take-le, set-get_or}
 use Rattle.std.proofs.lemmas.List.Concat.{flat_map-append}
 use Rattle.model.specs.Steps.{Touch}
-use Rattle.touches.specs.Expanded.{Touched, expanded, touches_of}
+use Rattle.touches.specs.declared.touched.Touched.{Touched}
+use Rattle.touches.specs.Expanded.{expanded, touches_of}
 use Rattle.records.specs.Touches.{touched_by, with_touches}
 use Rattle.records.proofs.Laws.{with_touches_append, take_with_touches}
 

@@ -22,17 +22,17 @@ pub record AreLeft (p n : Places) (f first last pid : ℕ) (v : Bool) : Type 0 w
 -- where a row of a block starts
 pub row_start : (p : Places) (f b : ℕ) (hs : List Holding) → row_at p f b ≡ Some hs → (x : ℕ) × (x ≤ b) × (p f x ≡ Some hs)
 row_start p f zero hs is = (0, omega arith, is)
-row_start p f (suc b) hs is = by (p f (suc b)) refl is where
-  by : (o : Option (List Holding)) → p f (suc b) ≡ o → option_or o (row_at p f b) ≡ Some hs → (x : ℕ) × (x ≤ suc b) × (p f x ≡ Some hs)
-  by (Some gs) start e = (suc b, omega arith, start ∙ e)
-  by None start e = let r = row_start p f b hs e in (r.0, omega (arith, r.1), r.2)
+row_start p f (suc b) hs is = by (p f (suc b)) refl is (row_start p f b hs) where
+  by : (o : Option (List Holding)) → p f (suc b) ≡ o → option_or o (row_at p f b) ≡ Some hs → (row_at p f b ≡ Some hs → (x : ℕ) × (x ≤ b) × (p f x ≡ Some hs)) → (x : ℕ) × (x ≤ suc b) × (p f x ≡ Some hs)
+  by (Some gs) start e before = (suc b, omega arith, start ∙ e)
+  by None start e before = let r = before e in (r.0, omega (arith, r.1), r.2)
 
 -- no use of a row has the start of a row behind it
 ends_before : (q c y : ℕ) (w : Bool) (hs : List Holding) → y ≤ c → AllByRecursion (λ h. h.last < y) hs → uses q w c hs ≡ false
 ends_before q c y w [] le all = refl
 ends_before q c y w (h ∷ hs) le all =
-    let no : has_block c h ≡ false = past c y h le all.0 in
-    ap (λ k. (is_own q w h && k) || uses q w c hs) no ∙ ap (λ k. k || uses q w c hs) (none (is_own q w h)) ∙ ends_before q c y w hs le all.1 where
+    let off : has_block c h ≡ false = past c y h le all.0 in
+    ap (λ k. (is_own q w h && k) || uses q w c hs) off ∙ ap (λ k. k || uses q w c hs) (none (is_own q w h)) ∙ ends_before q c y w hs le all.1 where
   none : (a : Bool) → (a && false) ≡ false
   none true = refl
   none false = refl
@@ -63,10 +63,10 @@ own_ended_uses p c q b v w (h ∷ hs) some =
   parted false x y = refl
 
   not_user : is_own p v h ≡ false → is_own q w h ≡ true → is_user p v q w ≡ false
-  not_user no own = by (is_user p v q w) refl where
+  not_user off own = by (is_user p v q w) refl where
     by : (t : Bool) → is_user p v q w ≡ t → is_user p v q w ≡ false
     by false is = is
-    by true is = absurd (false≢true (sym no ∙ turned is own)) where
+    by true is = absurd (false≢true (sym off ∙ turned is own)) where
       turned : is_user p v q w ≡ true → is_own q w h ≡ true → is_own p v h ≡ true
       turned is own = grind (arith, is, own)
 
@@ -91,7 +91,7 @@ own_ended_uses p c q b v w (h ∷ hs) some =
       ap (λ x. x && has_block b (ended c h)) (own_as_ended c q w h)
       ∙ by_block (nat_le c b) refl
       ∙ ap (λ u. not (u && nat_le c b) && (is_own q w h && has_block b h)) (own_is p q v w h own)
-  one false no = kept (is_user p v q w) (is_own q w h) (has_block b h) (nat_le c b) (not_user no)
+  one false off = kept (is_user p v q w) (is_own q w h) (has_block b h) (nat_le c b) (not_user off)
 
 -- The rows of a file that a process leaves: no use of its own that starts in the blocks or before them goes on
 -- behind them.

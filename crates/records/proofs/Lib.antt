@@ -21,3 +21,5 @@ mod Leaving
 mod Journaled
 mod Together
 mod Unblocked
+mod Structure
+mod Entered

@@ -55,10 +55,10 @@ row_there : (rows : RowMap) (f : ℕ) (e : (ℕ × ℕ) × Row) → e.0.0 ≡ f 
 row_there rows f e same is = (e.1.holdings.items, ap (λ n. holdings_of (tree.get place_cmp rows (n, e.0.1))) (sym same) ∙ ap holdings_of is)
 
 none_from : (rows : RowMap) (f y : ℕ) → (IsSome (tree.get place_cmp rows (f, y)) → ⊥) → places_of rows f y ≡ None
-none_from rows f y no = by (tree.get place_cmp rows (f, y)) refl where
+none_from rows f y never = by (tree.get place_cmp rows (f, y)) refl where
   by : (o : Option Row) → tree.get place_cmp rows (f, y) ≡ o → places_of rows f y ≡ None
   by None is = ap holdings_of is
-  by (Some r) is = absurd (no (ap is_some is))
+  by (Some r) is = absurd (never (ap is_some is))
 
 -- the last of a range
 pub last_start : (rows : RowMap) (f b : ℕ) (e : (ℕ × ℕ) × Row) (t r : List ((ℕ × ℕ) × Row)) → IsRangeOf place_cmp (Included (f, 0)) (Included (f, b)) rows r → r ≡ t ++ e ∷ [] → IsStartOf (places_of rows) f b e.0.1

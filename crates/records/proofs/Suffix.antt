@@ -89,7 +89,7 @@ none_of : (a b : ℕ) → (nat_le a b && nat_lt b (a + 0)) ≡ false
 none_of a b = by (nat_le a b) refl where
   by : (t : Bool) → nat_le a b ≡ t → (t && nat_lt b (a + 0)) ≡ false
   by true le = grind (arith, nat_tests)
-  by false no = refl
+  by false off = refl
 
 one_more : (a b n : ℕ) → ((a == b) || (nat_le (suc a) b && nat_lt b (suc a + n))) ≡ (nat_le a b && nat_lt b (a + suc n))
 one_more a b n = elim (cases_eq a b) [

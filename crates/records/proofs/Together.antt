@@ -1,15 +1,17 @@
 -- Blocks that came one behind the other, in a journal that grows at its end or is cut there.
-use Rattle.std.proofs.Common.{◌≡◌, ◌∙◌, sym, refl, ap, ℕ, suc, ◌+◌, ◌-◌, ◌≤◌, ◌⊎◌, inl, inr, Bool, true, false, List, [], ◌∷◌, ◌++◌, if◌then◌else◌, append_assoc, arith}
+use Rattle.std.proofs.Common.{◌≡◌, ◌∙◌, sym, refl, ap, ℕ, suc, ◌+◌, ◌-◌, ◌≤◌, ◌⊎◌, inl, inr, Bool, true, false, not, ◌&&◌, ◌||◌, List, [], ◌∷◌, ◌++◌, if◌then◌else◌, append_assoc, arith}
 use Rattle.std.proofs.lemmas.Bool.{false≢true}
 use Rattle.std.proofs.lemmas.List.{append-nil, same_from_push}
+use Rattle.std.proofs.lemmas.List.Folds.{list_any-append}
 use Rattle.model.specs.Aspects.{Block}
 use Rattle.model.specs.Steps.{Touch}
+use Rattle.model.specs.Clashes.{same_aspect}
 use Rattle.touches.specs.Expanded.{touches_of_blocks}
 use Rattle.touches.proofs.Runs.{block_touch, blocks_more, blocks_append}
 use Rattle.records.specs.Codes.{is_touch}
 use Rattle.records.specs.Index.{has}
 use Rattle.records.specs.Touches.{with_touch, with_touches, distinct}
-use Rattle.records.proofs.Exact.{touch_itself}
+use Rattle.records.proofs.Exact.{test_is, touch_itself}
 use Rattle.records.proofs.Indexing.{has_push}
 use Rattle.records.proofs.Suffix.{AreNew, once_before}
 
@@ -50,8 +52,15 @@ snoc (t ∷ ts) = elim (snoc ts) [
   | inr some ↦ inr (t ∷ some.0, some.1, ap (λ x. t ∷ x) some.2)
 ]
 
-has_inside : (t : Touch) (xs ys : List Touch) → has t (xs ++ t ∷ ys) ≡ true
-has_inside t xs ys = grind (arith, touch_itself t)
+or_true : (a : Bool) → (a || true) ≡ true
+or_true true = refl
+or_true false = refl
+
+pub has_inside : (t : Touch) (xs ys : List Touch) → has t (xs ++ t ∷ ys) ≡ true
+has_inside t xs ys =
+    list_any-append (λ u. same_aspect u.aspect t.aspect && (if t.write then u.write else not u.write)) xs (t ∷ ys)
+    ∙ ap (λ b. has t xs || (b || has t ys)) (test_is t t ∙ touch_itself t)
+    ∙ or_true (has t xs)
 
 new_last : (held : List Touch) (t : Touch) → AreNew held (t ∷ []) → has t held ≡ false
 new_last held t new = by (has t held) refl where

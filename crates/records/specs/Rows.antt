@@ -1,5 +1,5 @@
 -- Who uses which blocks of files, kept by rows.
-use Rattle.std.specs.Prelude.{◌≡◌, ℕ, zero, suc, ◌-◌, ◌+◌, ◌<◌, ◌≤◌, ◌⊎◌, Bool, true, false, not, ◌&&◌, ◌==◌, nat_le}
+use Rattle.std.specs.Prelude.{◌≡◌, ℕ, zero, suc, ◌-◌, ◌+◌, ◌<◌, ◌≤◌, ◌⊎◌, Bool, true, false, not, ◌&&◌, ◌||◌, ◌==◌, nat_le}
 use Rattle.std.specs.Prelude.{List, [], ◌∷◌, ◌++◌, map, filter, Option, Some, None, ⊤, if◌then◌else◌}
 use Rattle.std.specs.Option.{option_or, option_map}
 use Rattle.std.specs.List.{list_any, AllByRecursion}
@@ -147,7 +147,7 @@ IsEntered old new file first last pid write goes_on =
     ((start : ℕ) × IsStartOf old file first start × ((start ≡ first) ⊎ (goes_on ≡ true))
         × ((hs : List Holding) → old file start ≡ Some hs
         → Puts old new file start (Some (with_use pid write last hs))))
-    ⊎ ((before : Option ℕ) × IsRowOf old file first before
+    ⊎ ((before : Option ℕ) × IsRowOf old file first before × (before ≡ Some first → ⊥)
         × Opens old new file before first pid write last)
 
 -- a row of somebody

@@ -3,7 +3,8 @@ use Rattle.std.specs.Prelude.{◌≡◌, ℕ, suc, ◌+◌, ◌<◌, ◌≤◌, 
 use Rattle.std.specs.List.{AllByRecursion}
 use Rattle.model.specs.Aspects.{Block}
 use Rattle.model.specs.Steps.{Touch}
-use Rattle.touches.specs.Expanded.{Touched, touches_of}
+use Rattle.touches.specs.declared.touched.Touched.{Touched}
+use Rattle.touches.specs.Expanded.{touches_of}
 use Rattle.records.specs.Touches.{touched_by}
 
 -- the last of these touches is of the block before this one, in the same way
