@@ -123,10 +123,7 @@ module _ (p n : Places) (f s first last pid : ℕ) (v : Bool) (hs : List Holding
     (before : (b : ℕ) → s ≤ b → b < first → uses pid v b hs ≡ true) (free : uses pid v first hs ≡ false) where
   -- what it used itself, and uses now
   own_now : (b : ℕ) → s ≤ b → nat_le b last ≡ ((nat_le first b && nat_le b last) || uses pid v b hs)
-  own_now b le = elim (cases_eq (nat_le first b) true) [
-    | inl e ↦ behind e
-    | inr ne ↦ ahead ne
-  ] where
+  own_now b le = by_place (nat_le first b) refl where
     unused : first ≤ b → uses pid v b hs ≡ false
     unused ge = by (uses pid v b hs) refl where
       by : (u : Bool) → uses pid v b hs ≡ u → uses pid v b hs ≡ false
@@ -142,7 +139,7 @@ module _ (p n : Places) (f s first last pid : ℕ) (v : Bool) (hs : List Holding
         let ge : first ≤ b = grind (arith, nat_tests) in
         sym (ap (λ x. (x && nat_le b last) || uses pid v b hs) e ∙ ap (λ u. nat_le b last || u) (unused ge) ∙ or_none (nat_le b last))
 
-    ahead : (nat_le first b ≡ true → ⊥) → nat_le b last ≡ ((nat_le first b && nat_le b last) || uses pid v b hs)
+    ahead : nat_le first b ≡ false → nat_le b last ≡ ((nat_le first b && nat_le b last) || uses pid v b hs)
     ahead ne =
         let lt : b < first = grind (arith, nat_tests) in
         let le_last : nat_le b last ≡ true = grind (arith, nat_tests) in
@@ -150,6 +147,10 @@ module _ (p n : Places) (f s first last pid : ℕ) (v : Bool) (hs : List Holding
       or_true : (x : Bool) → (x || true) ≡ true
       or_true true = refl
       or_true false = refl
+
+    by_place : (t : Bool) → nat_le first b ≡ t → nat_le b last ≡ ((nat_le first b && nat_le b last) || uses pid v b hs)
+    by_place true e = behind e
+    by_place false e = ahead e
 
   -- in the changed row
   in_row : (b q : ℕ) (w : Bool) → s ≤ b → uses q w b (with_use pid v last hs) ≡ ((is_user pid v q w && (nat_le first b && nat_le b last)) || uses q w b hs)
@@ -172,10 +173,7 @@ module _ (p n : Places) (f s first last pid : ℕ) (v : Bool) (hs : List Holding
 
   -- and in each row of the file
   in_file : (b q : ℕ) (w : Bool) → uses_at n f q w b ≡ ((is_user pid v q w && (nat_le first b && nat_le b last)) || uses_at p f q w b)
-  in_file b q w = elim (cases_eq (nat_le s b) true) [
-    | inl e ↦ on (grind (arith, nat_tests))
-    | inr ne ↦ ahead_of (grind (arith, nat_tests))
-  ] where
+  in_file b q w = by_place (nat_le s b) refl where
     out : (a x : Bool) → x ≡ false → (a && x) ≡ false
     out true x e = e
     out false x e = refl
@@ -199,6 +197,10 @@ module _ (p n : Places) (f s first last pid : ℕ) (v : Bool) (hs : List Holding
       and_none : (a x : Bool) → x ≡ false → (a && x) ≡ false
       and_none true x h = h
       and_none false x h = refl
+
+    by_place : (t : Bool) → nat_le s b ≡ t → uses_at n f q w b ≡ ((is_user pid v q w && (nat_le first b && nat_le b last)) || uses_at p f q w b)
+    by_place true e = let le : s ≤ b = grind (arith, nat_tests) in on le
+    by_place false e = let lt : b < s = grind (arith, nat_tests) in ahead_of lt
 
   pub enters_row : Enters p n f first last pid v
   enters_row g b q w = elim (cases_eq g f) [
