@@ -1,2 +1,4 @@
 mod Names
 mod Placed
+pub mod Firsts
+mod Runs

@@ -12,3 +12,14 @@ mod Listing
 mod Once
 mod Entries
 mod Found
+mod Places
+mod Rowed
+mod Using
+mod Entering
+mod Suffix
+mod Leaving
+mod Journaled
+mod Together
+mod Unblocked
+mod Structure
+mod Entered

@@ -6,3 +6,5 @@ pub mod Groups
 pub mod Index
 pub mod Ranges
 pub mod Holders
+pub mod Rows
+pub mod Runs
