@@ -49,7 +49,7 @@ module _ (lists : List (List Touch)) (p n : Places) (f first last pid : ℕ) (v 
     (free : uses_at p f pid v first ≡ false)
     (on : goes ≡ true → GoesOnBy (touched_by lists pid) f first v) where
   -- what it touched last it uses
-  used_last : (s b : ℕ) (hs : List Holding) → IsStartOf p f first s → p f s ≡ Some hs → goes ≡ true → s ≤ b → b < first → uses pid v b hs ≡ true
+  pub used_last : (s b : ℕ) (hs : List Holding) → IsStartOf p f first s → p f s ≡ Some hs → goes ≡ true → s ≤ b → b < first → uses pid v b hs ≡ true
   used_last s b hs start is going from to =
       let last_touch = on going in
       let k : ℕ = last_touch.0 in

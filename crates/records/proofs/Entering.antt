@@ -12,10 +12,10 @@ use Rattle.records.proofs.Using.{with_other, with_own, from_uses, ended_uses}
 
 -- what a change of one row leaves
 
-put_other : (p n : Places) (f s : ℕ) (o : Option (List Holding)) → Puts p n f s o → (g b : ℕ) → (g == f) ≡ false → n g b ≡ p g b
+pub put_other : (p n : Places) (f s : ℕ) (o : Option (List Holding)) → Puts p n f s o → (g b : ℕ) → (g == f) ≡ false → n g b ≡ p g b
 put_other p n f s o puts g b ne = puts g b ∙ ap (λ t. if t && (b == s) then o else p g b) ne
 
-put_off : (p n : Places) (f s : ℕ) (o : Option (List Holding)) → Puts p n f s o → (b : ℕ) → (b ≡ s → ⊥) → n f b ≡ p f b
+pub put_off : (p n : Places) (f s : ℕ) (o : Option (List Holding)) → Puts p n f s o → (b : ℕ) → (b ≡ s → ⊥) → n f b ≡ p f b
 put_off p n f s o puts b ne = puts f b ∙ ap (λ t. if (f == f) && t then o else p f b) (ne_eqb b s ne) ∙ none (f == f) where
   none : (t : Bool) → (if t && false then o else p f b) ≡ p f b
   none true = refl

@@ -18,11 +18,11 @@ use Rattle.records.proofs.Suffix.{has_blocks}
 abbrev pub AreUsesOf : List (List Touch) → Places → Type 0
 AreUsesOf lists p = (f b q : ℕ) (w : Bool) → uses_at p f q w b ≡ has_touch (Block f b) w (touched_by lists q)
 
-has_append : (f b : ℕ) (w : Bool) (ts us : List Touch) → has_touch (Block f b) w (ts ++ us) ≡ (has_touch (Block f b) w ts || has_touch (Block f b) w us)
+pub has_append : (f b : ℕ) (w : Bool) (ts us : List Touch) → has_touch (Block f b) w (ts ++ us) ≡ (has_touch (Block f b) w ts || has_touch (Block f b) w us)
 has_append f b w ts us = list_any-append (λ u. same_aspect u.aspect (Block f b) && (if w then u.write else not u.write)) ts us
 
 -- the blocks from one on up to another one
-blocks_within : (f first last g b : ℕ) (v w : Bool) → first ≤ last → has_touch (Block g b) w (touches_of_blocks f first ((last + 1) - first) v) ≡ (is_within f first last g b && alike v w)
+pub blocks_within : (f first last g b : ℕ) (v w : Bool) → first ≤ last → has_touch (Block g b) w (touches_of_blocks f first ((last + 1) - first) v) ≡ (is_within f first last g b && alike v w)
 blocks_within f first last g b v w le =
     let e : first + ((last + 1) - first) ≡ last + 1 = omega arith in
     let to : nat_lt b (last + 1) ≡ nat_le b last = grind (arith, nat_tests) in

@@ -23,3 +23,9 @@ mod Together
 mod Unblocked
 mod Structure
 mod Entered
+mod Mapped
+mod Held
+mod Outcomes
+mod Shaped
+mod Grown
+mod Gone

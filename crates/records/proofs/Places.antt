@@ -71,6 +71,12 @@ last_start rows f b e t r range is =
       none = λ y from to. none_from rows f y (λ there. let below : y ≤ e.0.1 = not_less f y e.0 same (range.4 e t is (f, y) (not_after f 0 y (omega arith), not_after f y b to) there) in omega arith);
     }
 
+pub last_there : (rows : RowMap) (f b : ℕ) (e : (ℕ × ℕ) × Row) (t r : List ((ℕ × ℕ) × Row)) → IsRangeOf place_cmp (Included (f, 0)) (Included (f, b)) rows r → r ≡ t ++ e ∷ [] → places_of rows f e.0.1 ≡ Some e.1.holdings.items
+last_there rows f b e t r range is =
+    let at : IsEntryInRange place_cmp (Included (f, 0)) (Included (f, b)) rows e = range.3 e t is in
+    let same : e.0.0 ≡ f = same_file f 0 b e.0 at.0.0 at.0.1 in
+    ap (λ n. holdings_of (tree.get place_cmp rows (n, e.0.1))) (sym same) ∙ ap holdings_of at.1
+
 pub no_start : (rows : RowMap) (f from to : ℕ) (r : List ((ℕ × ℕ) × Row)) → IsRangeOf place_cmp (Included (f, from)) (Included (f, to)) rows r → r ≡ [] → HaveNoStart (places_of rows) f from to
 no_start rows f from to r range is = λ y a b. ap holdings_of (range.5 is (f, y) (not_after f from y a, not_after f y to b))
 

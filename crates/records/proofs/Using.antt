@@ -8,7 +8,7 @@ use Rattle.records.specs.Groups.{alike}
 use Rattle.records.specs.declared.row.Holding.{Holding}
 use Rattle.records.specs.Rows.{is_own, has_block, uses, ended, own_ended, with_use, without_use, is_user, IsSingle}
 
-alike_is : (v w : Bool) → alike v w ≡ true → v ≡ w
+pub alike_is : (v w : Bool) → alike v w ≡ true → v ≡ w
 alike_is true true h = refl
 alike_is true false h = cc
 alike_is false true h = cc

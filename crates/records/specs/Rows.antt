@@ -155,22 +155,19 @@ abbrev pub some_if : List Holding → Option (List Holding)
 some_if [] = None
 some_if (h ∷ hs) = Some (h ∷ hs)
 
+abbrev pub is_nobody : List Holding → Bool
+is_nobody [] = true
+is_nobody (h ∷ hs) = false
+
+-- whether a row has nobody
+abbrev pub is_deserted : Option (List Holding) → Bool
+is_deserted None = false
+is_deserted (Some hs) = is_nobody hs
+
 -- what is left of a row where a process goes: no row where that is nobody
 abbrev pub left_of : ℕ → Bool → Option (List Holding) → Option (List Holding)
 left_of pid write None = None
 left_of pid write (Some hs) = some_if (without_use pid write hs)
-
--- A process is in no row that starts in these blocks, and its use in the row before them ends before them.
-pub record IsLeft (old new : Places) (file first last pid : ℕ) (write : Bool) : Type 0 where
-  pub inside : (b : ℕ) → first ≤ b → b ≤ last → new file b ≡ left_of pid write (old file b)
-  pub before : (b start : ℕ) → suc b ≡ first → IsStartOf old file b start
-      → new file start ≡ option_map (λ hs. map (own_ended pid write first) hs) (old file start)
-  pub ahead : (b start y : ℕ) → suc b ≡ first → IsStartOf old file b start → y < first
-      → (y ≡ start → ⊥) → new file y ≡ old file y
-  pub none : (b : ℕ) → suc b ≡ first → IsRowOf old file b None → (y : ℕ) → y < first
-      → new file y ≡ old file y
-  pub behind : (b : ℕ) → last < b → new file b ≡ old file b
-  pub others : (f b : ℕ) → (f ≡ file → ⊥) → new f b ≡ old f b
 
 -- the same rows
 abbrev pub SamePlaces : Places → Places → Type 0
@@ -179,6 +176,23 @@ SamePlaces old new = (f b : ℕ) → new f b ≡ old f b
 -- the blocks from one on up to another one of a file
 abbrev pub is_within : ℕ → ℕ → ℕ → ℕ → ℕ → Bool
 is_within file first last f b = (file == f) && (nat_le first b && nat_le b last)
+
+-- A process's use in the row before a block ends before the block.
+abbrev pub IsEnded : Places → Places → ℕ → ℕ → ℕ → Bool → Type 0
+IsEnded old new file block pid write =
+    ((b : ℕ) × (start : ℕ) × (suc b ≡ block) × IsStartOf old file b start
+        × Puts old new file start (option_map (λ hs. map (own_ended pid write block) hs) (old file start)))
+    ⊎ (((y : ℕ) → y < block → old file y ≡ None) × SamePlaces old new)
+
+-- A process is in no row that starts in these blocks.
+abbrev pub AreOut : Places → Places → ℕ → ℕ → ℕ → ℕ → Bool → Type 0
+AreOut old new file first last pid write = (f b : ℕ) → new f b
+    ≡ (if is_within file first last f b then left_of pid write (old f b) else old f b)
+
+-- Its use in the row before the blocks ends before them, and it is in none that starts in them.
+abbrev pub IsLeft : Places → Places → ℕ → ℕ → ℕ → ℕ → Bool → Type 0
+IsLeft old new file first last pid write = (mid : Places)
+    × IsEnded old mid file first pid write × AreOut mid new file first last pid write
 
 -- whether it is the same process, and both read or both write
 abbrev pub is_user : ℕ → Bool → ℕ → Bool → Bool

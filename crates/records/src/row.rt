@@ -2,7 +2,7 @@
 ghost use Rattle.std.specs.Prelude.{◌≡◌, ℕ, ◌<◌, ◌≤◌, false, true, filter, map, []};
 ghost use Rattle.std.specs.Prelude.{IfOk, IfSome, IfNone, OnOk, OnErr};
 ghost use Rattle.records.specs.Rows.{uses, has_block, ended, own_ended, is_own};
-ghost use Rattle.records.specs.Rows.{with_use, without_use};
+ghost use Rattle.records.specs.Rows.{with_use, without_use, is_nobody};
 
 use heap::Heap;
 use ids::Pid;
@@ -133,7 +133,7 @@ impl Row {
 
     /// Whether there is nobody.
     pub fn is_empty(&self) -> bool
-        ensures { result ≡ true → self.now.holdings.items ≡ [] }
+        ensures { result ≡ is_nobody self.now.holdings.items }
     {
         self.holdings.is_empty()
     }

@@ -1,11 +1,13 @@
 // Who uses which blocks of files.
-ghost use Rattle.std.specs.Prelude.{◌≡◌, ℕ, suc, ◌<◌, ◌≤◌, false, true, List, [], filter, Some};
+ghost use Rattle.std.specs.Prelude.{◌≡◌, ℕ, suc, ◌<◌, ◌≤◌, false, true, List, filter, map};
+ghost use Rattle.std.specs.Prelude.{Some, None};
 ghost use Rattle.std.specs.Prelude.{IfSome, IfNone, IfOk, OnOk, OnErr};
-ghost use Rattle.std.specs.Option.{option_copied};
-ghost use Rattle.records.specs.Rows.{places_of, row_at, uses_at, holdings_of};
+ghost use Rattle.std.specs.Option.{option_copied, option_map};
+ghost use Rattle.records.specs.Rows.{places_of, row_at, uses_in, uses_at, holdings_of};
 ghost use Rattle.records.specs.Rows.{IsStartOf, IsFirstStart, HaveNoStart};
-ghost use Rattle.records.specs.Rows.{with_use, has_block, left_of, Puts, Opens, SamePlaces};
-ghost use Rattle.records.specs.Rows.{IsEntered, IsLeft};
+ghost use Rattle.records.specs.Rows.{with_use, without_use, ended, own_ended, has_block, left_of};
+ghost use Rattle.records.specs.Rows.{is_deserted, Puts, Opens, SamePlaces};
+ghost use Rattle.records.specs.Rows.{IsEntered, IsEnded, AreOut, IsLeft};
 ghost use Rattle.records.specs.declared.row.Holding.{Holding};
 
 use crate::row::Row;
@@ -90,6 +92,35 @@ pub fn next_start(rows: &Rows, file: Num, block: u32, last: u32) -> Option<u32>
     }
 }
 
+/// The last block before the next start of a row behind a block, up to a last one. It takes no
+/// memory.
+fn end_of(rows: &Rows, file: Num, block: u32, last: u32) -> u32
+    requires { block ≤ last }
+    ensures from { block ≤ result }
+    ensures to { result ≤ last }
+    ensures whole { HaveNoStart (places_of rows.now) file (suc block) result }
+{
+    match next_start(rows, file, block, last) {
+        Some(next) => next - 1,
+        None => last,
+    }
+}
+
+/// The last of the blocks that a process uses in the row of a block, where it uses this one. It
+/// takes no memory.
+fn used_to(rows: &Rows, user: User, block: u32) -> Option<u32>
+    ensures some { IfSome result (λ last. block ≤ last) }
+    ensures uses { IfSome result (λ last. (b : ℕ) → b ≤ last → uses_in
+        (row_at (places_of rows.now) user.file block) user.pid user.write b ≡ true) }
+    ensures none { IfNone result
+        (uses_at (places_of rows.now) user.file user.pid user.write block ≡ false) }
+{
+    match row_of(rows, user.file, block) {
+        Some(row) => row.last_of(user.pid, user.write, block),
+        None => None,
+    }
+}
+
 /// What a process uses from a block on, up to a last one. It takes no memory.
 pub fn part_at(rows: &Rows, user: User, block: u32, last: u32) -> Part
     requires { block ≤ last }
@@ -101,15 +132,8 @@ pub fn part_at(rows: &Rows, user: User, block: u32, last: u32) -> Part
     ensures free { result.is_used ≡ false
         → uses_at (places_of rows.now) user.file user.pid user.write block ≡ false }
 {
-    let end = match next_start(rows, user.file, block, last) {
-        Some(next) => next - 1,
-        None => last,
-    };
-    let used = match row_of(rows, user.file, block) {
-        Some(row) => row.last_of(user.pid, user.write, block),
-        None => None,
-    };
-    match used {
+    let end = end_of(rows, user.file, block, last);
+    match used_to(rows, user, block) {
         Some(used) => Part {
             last: used.min(end),
             is_used: true,
@@ -134,52 +158,107 @@ fn put_in(rows: &mut Rows, user: User, start: u32, last: u32) -> Result<(), Allo
     }
 }
 
-/// The users of a block, as a row that starts there. Refused memory is an error.
+/// The users of a row whose use goes on at a block, as a row of its own. Refused memory is an error.
 fn split_row(
     heap: Heap,
     rows: &Rows,
     file: Num,
-    before: Option<u32>,
+    start: u32,
     block: u32,
 ) -> Result<Row, AllocError>
-    ensures none { IfNone before (IfOk result (λ row. row.holdings.items ≡ [])) }
-    ensures some { IfSome before (λ start. (hs : List Holding)
-        → places_of rows.now file start ≡ Some hs
-        → IfOk result (λ row. row.holdings.items ≡ filter (has_block block) hs)) }
+    ensures { (hs : List Holding) → places_of rows.now file start ≡ Some hs
+        → IfOk result (λ row. row.holdings.items ≡ filter (has_block block) hs) }
 {
-    let Some(start) = before else {
-        return Ok(Row::new(heap));
-    };
     match rows.get(&(file, start)) {
         Some(row) => row.from_block(heap, block),
         None => Ok(Row::new(heap)),
     }
 }
 
-/// A row starts at the first of these blocks, in which the process is too. Refused memory changes
-/// nothing.
-fn open_row(
+/// A row starts at a block. Refused memory changes nothing.
+fn insert_row(rows: &mut Rows, file: Num, start: u32, row: Row) -> Result<(), AllocError>
+    ensures ok { OnOk result (Puts (places_of rows.old) (places_of rows.new) file start
+        (Some row.entry.holdings.items)) }
+    ensures err { OnErr result (SamePlaces (places_of rows.old) (places_of rows.new)) }
+{
+    rows.insert((file, start), row)?;
+    Ok(())
+}
+
+/// No use of a row goes on at a block, which is not the first. It takes no memory.
+fn cut_row(rows: &mut Rows, file: Num, start: u32, block: u32)
+    requires { 0 < block }
+    ensures { Puts (places_of rows.old) (places_of rows.new) file start
+        (option_map (λ hs. map (ended block) hs) (places_of rows.old file start)) }
+{
+    match rows.get_mut(&(file, start)) {
+        Some(row) => row.end_before(block),
+        None => {}
+    }
+}
+
+/// A row starts at the first of these blocks, in which there is the process alone. Refused memory
+/// changes nothing.
+fn open_alone(
     heap: Heap,
     rows: &mut Rows,
     user: User,
-    before: Option<u32>,
     first: u32,
     last: u32,
 ) -> Result<(), AllocError>
-    requires { IfSome before (λ start. start < first) }
-    ensures ok { OnOk result (Opens (places_of rows.old) (places_of rows.new) user.file before first
+    ensures ok { OnOk result (Opens (places_of rows.old) (places_of rows.new) user.file None first
         user.pid user.write last) }
     ensures err { OnErr result (SamePlaces (places_of rows.old) (places_of rows.new)) }
 {
-    let mut row = split_row(heap, rows, user.file, before, first)?;
+    let mut row = Row::new(heap);
     row.put(user.pid, user.write, last)?;
-    rows.insert((user.file, first), row)?;
-    if let Some(start) = before {
-        if let Some(row) = rows.get_mut(&(user.file, start)) {
-            row.end_before(first);
-        }
-    }
+    insert_row(rows, user.file, first, row)
+}
+
+/// A row starts at the first of these blocks, in which the process is beside those of the row
+/// before whose use goes on there. Refused memory changes nothing.
+fn open_behind(
+    heap: Heap,
+    rows: &mut Rows,
+    user: User,
+    start: u32,
+    first: u32,
+    last: u32,
+) -> Result<(), AllocError>
+    requires { start < first }
+    ensures ok { OnOk result (Opens (places_of rows.old) (places_of rows.new) user.file (Some start)
+        first user.pid user.write last) }
+    ensures err { OnErr result (SamePlaces (places_of rows.old) (places_of rows.new)) }
+{
+    let mut row = split_row(heap, rows, user.file, start, first)?;
+    row.put(user.pid, user.write, last)?;
+    insert_row(rows, user.file, first, row)?;
+    cut_row(rows, user.file, start, first);
     Ok(())
+}
+
+/// The same as below, where a row starts at the first of the blocks or before it.
+fn enter_behind(
+    heap: Heap,
+    rows: &mut Rows,
+    user: User,
+    start: u32,
+    first: u32,
+    last: u32,
+    goes_on: bool,
+) -> Result<(), AllocError>
+    requires { IsStartOf (places_of rows.old) user.file first start }
+    ensures ok { OnOk result (IsEntered (places_of rows.old) (places_of rows.new) user.file first last
+        user.pid user.write goes_on) }
+    ensures err { OnErr result (SamePlaces (places_of rows.old) (places_of rows.new)) }
+{
+    if goes_on {
+        put_in(rows, user, start, last)
+    } else if start == first {
+        put_in(rows, user, start, last)
+    } else {
+        open_behind(heap, rows, user, start, first, last)
+    }
 }
 
 /// A process uses these blocks, of which it used none, and in which no row starts but at the first
@@ -198,8 +277,23 @@ pub fn enter_part(
     ensures err { OnErr result (SamePlaces (places_of rows.old) (places_of rows.new)) }
 {
     match start_of(rows, user.file, first) {
-        Some(start) if start == first || goes_on => put_in(rows, user, start, last),
-        before => open_row(heap, rows, user, before, first, last),
+        Some(start) => enter_behind(heap, rows, user, start, first, last, goes_on),
+        None => open_alone(heap, rows, user, first, last),
+    }
+}
+
+/// A process goes from a row, and the answer is whether nobody is left there. It takes no memory.
+fn leave_in(rows: &mut Rows, user: User, start: u32) -> bool
+    ensures left { Puts (places_of rows.old) (places_of rows.new) user.file start
+        (option_map (λ hs. without_use user.pid user.write hs) (places_of rows.old user.file start)) }
+    ensures nobody { result ≡ is_deserted (places_of rows.new user.file start) }
+{
+    match rows.get_mut(&(user.file, start)) {
+        Some(row) => {
+            row.leave(user.pid, user.write);
+            row.is_empty()
+        }
+        None => false,
     }
 }
 
@@ -208,27 +302,50 @@ fn leave_row(rows: &mut Rows, user: User, start: u32)
     ensures { Puts (places_of rows.old) (places_of rows.new) user.file start
         (left_of user.pid user.write (places_of rows.old user.file start)) }
 {
-    let nobody = match rows.get_mut(&(user.file, start)) {
-        Some(row) => {
-            row.leave(user.pid, user.write);
-            row.is_empty()
-        }
-        None => false,
-    };
-    if nobody {
+    if leave_in(rows, user, start) {
         rows.remove(&(user.file, start));
     }
 }
 
+/// A process's use in a row does not go on at a block, which is not the first. It takes no memory.
+fn end_in(rows: &mut Rows, user: User, start: u32, block: u32)
+    requires { 0 < block }
+    ensures { Puts (places_of rows.old) (places_of rows.new) user.file start
+        (option_map (λ hs. map (own_ended user.pid user.write block) hs)
+        (places_of rows.old user.file start)) }
+{
+    match rows.get_mut(&(user.file, start)) {
+        Some(row) => row.end_own_before(user.pid, user.write, block),
+        None => {}
+    }
+}
+
 /// A process's use ends before a block, where it starts before it. It takes no memory.
-fn end_before(rows: &mut Rows, user: User, block: u32) {
+fn end_before(rows: &mut Rows, user: User, block: u32)
+    ensures { IsEnded (places_of rows.old) (places_of rows.new) user.file block user.pid user.write }
+{
     if block == 0 {
         return;
     }
-    if let Some(start) = start_of(rows, user.file, block - 1) {
-        if let Some(row) = rows.get_mut(&(user.file, start)) {
-            row.end_own_before(user.pid, user.write, block);
+    match start_of(rows, user.file, block - 1) {
+        Some(start) => end_in(rows, user, start, block),
+        None => {}
+    }
+}
+
+/// A process goes from the rows that start in these blocks. It takes no memory, and a look-up for
+/// each row.
+fn leave_rows(rows: &mut Rows, user: User, first: u32, last: u32)
+    requires { first ≤ last }
+    ensures { AreOut (places_of rows.old) (places_of rows.new) user.file first last user.pid user.write }
+{
+    let mut from = first;
+    while let Some(start) = first_start(rows, user.file, from, last) {
+        leave_row(rows, user, start);
+        if start == last {
+            return;
         }
+        from = start + 1;
     }
 }
 
@@ -239,12 +356,5 @@ pub fn leave_blocks(rows: &mut Rows, user: User, first: u32, last: u32)
     ensures { IsLeft (places_of rows.old) (places_of rows.new) user.file first last user.pid user.write }
 {
     end_before(rows, user, first);
-    let mut from = first;
-    while let Some(start) = first_start(rows, user.file, from, last) {
-        leave_row(rows, user, start);
-        if start == last {
-            return;
-        }
-        from = start + 1;
-    }
+    leave_rows(rows, user, first, last);
 }
