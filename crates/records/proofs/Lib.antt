@@ -23,9 +23,13 @@ mod Together
 mod Unblocked
 mod Structure
 mod Entered
+mod Lasts
+mod Put
 mod Mapped
 mod Held
 mod Outcomes
 mod Shaped
 mod Grown
 mod Gone
+mod Noted
+mod Blocked

@@ -3,6 +3,7 @@ use Rattle.std.proofs.Common.{◌≡◌, ◌∙◌, sym, refl, ap, subst, ℕ, s
 use Rattle.std.specs.Option.{is_some, IsSome, option_map}
 use Rattle.std.specs.Ordering.{is_eq, nat_cmp, ordering_then}
 use Rattle.std.specs.BTreeMap as tree
+use Rattle.std.specs.Map.{lookup}
 use Rattle.std.specs.BTreeMap.Range.{IsRangeOf}
 use Rattle.std.specs.declared.cmp.Ordering.{Ordering}
 use Rattle.std.specs.declared.cmp.Ordering.TheVariants.{Less, Equal, Greater}
@@ -130,3 +131,7 @@ opened_behind p k n f s first pid last v row lt is puts cut hs there =
 pub last_row : (rows : RowMap) (f b : ℕ) (e : (ℕ × ℕ) × Row) (t r : List ((ℕ × ℕ) × Row)) → IsRangeOf place_cmp (Included (f, 0)) (Included (f, b)) rows r → r ≡ t ++ e ∷ [] → Some e.1.holdings.items ≡ row_at (places_of rows) f b
 last_row rows f b e t r range is =
     sym (row_of_start (places_of rows) f b e.0.1 (last_start rows f b e t r range is) ∙ last_there rows f b e t r range is)
+
+-- a map without entries has no row
+pub no_places : (m : RowMap) → m.entries ≡ [] → (f b : ℕ) → places_of m f b ≡ None
+no_places m e f b = ap (λ es. holdings_of (lookup (λ k. is_eq (place_cmp (f, b) k)) es)) e

@@ -8,3 +8,4 @@ pub mod Ranges
 pub mod Holders
 pub mod Rows
 pub mod Runs
+pub mod BlockMarks

@@ -1,16 +1,26 @@
 // Who clashes with a touch of a block of a file: the users of the block.
-ghost use Rattle.std.specs.Prelude.{◌≡◌, ◌++◌, IfOk};
+ghost use Rattle.std.specs.Prelude.{◌≡◌, ◌++◌, ◌&&◌, IfOk};
+ghost use Rattle.std.specs.Option.{option_copied};
+ghost use Rattle.records.specs.BlockMarks.{marks_on_block};
+ghost use Rattle.records.specs.Groups.{alike};
 ghost use Rattle.records.specs.Ranges.{marks_of, touch_on};
-ghost use Rattle.records.specs.Rows.{users_of};
+ghost use Rattle.records.specs.Rows.{has_block, users_of, holdings_of};
 
 use crate::holders::mark_on;
 use crate::mark::Mark;
-use crate::row::Row;
+use crate::row::{Holding, Row};
 use heap::Heap;
 use ids::{Aspect, Pid, Touch};
 use std::alloc::AllocError;
 
 type Found = Vec<Mark, Heap>;
+
+/// Whether it is a use by reading or by writing, and has a block that is not before its row.
+fn is_user(holding: &Holding, write: bool, block: u32) -> bool
+    ensures { result ≡ (alike holding.now.write write && has_block block holding.now) }
+{
+    holding.write == write && block <= holding.last
+}
 
 /// Adds the marks of those who read, or who write, a block from its row on, but the caller.
 fn collect_side(
@@ -26,7 +36,7 @@ fn collect_side(
 {
     let mut found = found;
     for holding in row.holdings.as_slice() {
-        if holding.write == write && block <= holding.last && holding.pid != caller {
+        if is_user(holding, write, block) && holding.pid != caller {
             found.push(mark_on(aspect, write, holding.pid)?)?;
         }
     }
@@ -41,7 +51,10 @@ pub fn collect_users(
     caller: Pid,
     touch: &Touch,
     block: u32,
-) -> Result<Found, AllocError> {
+) -> Result<Found, AllocError>
+    ensures { IfOk result (λ r. r.items ≡ marks_on_block caller touch.now.aspect touch.now.write block
+        (holdings_of (option_copied row))) }
+{
     let found = Vec::new(heap);
     let Some(row) = row else {
         return Ok(found);

@@ -1,5 +1,5 @@
 // The touches of one process, each once.
-ghost use Rattle.std.specs.Prelude.{◌≡◌, ◌≤◌, ◌<◌, ◌++◌, [], false, true, length};
+ghost use Rattle.std.specs.Prelude.{◌≡◌, ◌+◌, ◌-◌, ◌≤◌, ◌<◌, ◌++◌, [], false, true, length};
 ghost use Rattle.std.specs.Prelude.{OnOk, OnErr, IfErr, IfSome, IfNone};
 ghost use Rattle.records.specs.Touches.{with_touches};
 ghost use Rattle.records.specs.Runs.{GoesOnBy, HaveTouches};
@@ -43,19 +43,25 @@ impl Model for Journal {
         × (j.count ≡ length (expanded j.entries.items)) × HaveTouches j.entries.items };
 }
 
-/// Blocks and those that stand right behind them, as one.
-fn joined(before: &Touched, blocks: Blocks) -> Option<Blocks>
-    ensures { IfSome result (λ both. touches_of (Touched.Blocks both)
-        ≡ touches_of before.now ++ touches_of (Touched.Blocks blocks)) }
+/// Whether these blocks stand right behind those.
+fn stand_behind(before: Blocks, blocks: Blocks) -> bool
+    ensures some { result ≡ true → 0 < before.count }
+    ensures file { result ≡ true → before.file ≡ blocks.file }
+    ensures write { result ≡ true → before.write ≡ blocks.write }
+    ensures first { result ≡ true → before.first + before.count ≡ blocks.first }
 {
-    let Touched::Blocks(before) = before else {
-        return None;
-    };
-    if before.file != blocks.file || before.write != blocks.write || before.count == 0 {
-        return None;
+    if before.count == 0 || before.file != blocks.file || before.write != blocks.write {
+        return false;
     }
-    let behind = before.first.checked_add(before.count)?;
-    if behind != blocks.first {
+    before.first <= blocks.first && blocks.first - before.first == before.count
+}
+
+/// Blocks and those that stand right behind them, as one.
+fn joined(before: Blocks, blocks: Blocks) -> Option<Blocks>
+    ensures { IfSome result (λ both. touches_of (Touched.Blocks both)
+        ≡ touches_of (Touched.Blocks before) ++ touches_of (Touched.Blocks blocks)) }
+{
+    if !stand_behind(before, blocks) {
         return None;
     }
     let count = before.count.checked_add(blocks.count)?;
@@ -67,12 +73,38 @@ fn joined(before: &Touched, blocks: Blocks) -> Option<Blocks>
     })
 }
 
-/// Whether the last entry goes on by these blocks.
-fn goes_on(entries: &[Touched], blocks: Blocks) -> bool {
-    match entries.last() {
-        Some(last) => joined(last, blocks).is_some(),
-        None => false,
+/// The same of an entry, which may be no blocks.
+fn joined_to(before: &Touched, blocks: Blocks) -> Option<Blocks>
+    ensures { IfSome result (λ both. touches_of (Touched.Blocks both)
+        ≡ touches_of before.now ++ touches_of (Touched.Blocks blocks)) }
+{
+    match before {
+        Touched::Blocks(before) => joined(*before, blocks),
+        Touched::One(_) => None,
     }
+}
+
+/// Whether an entry goes on by these blocks.
+fn goes_on_by(before: &Touched, blocks: Blocks) -> bool
+    ensures { result ≡ true
+        → GoesOnBy (touches_of before.now) blocks.file blocks.first blocks.write }
+{
+    match before {
+        Touched::Blocks(before) => stand_behind(*before, blocks),
+        Touched::One(_) => false,
+    }
+}
+
+/// Whether the last entry goes on by these blocks.
+fn goes_on(entries: &[Touched], blocks: Blocks) -> bool
+    ensures { result ≡ true
+        → GoesOnBy (expanded entries.now) blocks.file blocks.first blocks.write }
+{
+    let count = entries.len();
+    if count == 0 {
+        return false;
+    }
+    goes_on_by(&entries[count - 1], blocks)
 }
 
 /// The last entry goes on by these blocks, and the answer is whether it does. It takes no memory.
@@ -86,7 +118,7 @@ fn join_last(entries: &mut Entries, blocks: Blocks) -> bool
     if count == 0 {
         return false;
     }
-    match joined(&entries[count - 1], blocks) {
+    match joined_to(&entries[count - 1], blocks) {
         Some(both) => {
             entries[count - 1] = Touched::Blocks(both);
             true
@@ -117,28 +149,40 @@ fn push_entry(entries: &mut Entries, touched: Touched) -> Result<(), Touched>
 
 /// Blocks without so many of the last, and these.
 fn cut(blocks: Blocks, gone: u32) -> (Blocks, Blocks)
-    requires { gone ≤ blocks.count }
+    requires some { 0 < gone }
+    requires fewer { gone < blocks.count }
     ensures both { touches_of (Touched.Blocks blocks)
         ≡ touches_of (Touched.Blocks result.0) ++ touches_of (Touched.Blocks result.1) }
-    ensures count { result.1.count ≡ gone }
+    ensures kept { result.0.count ≡ blocks.count - gone }
+    ensures gone { result.1.count ≡ gone }
 {
     let kept = blocks.count - gone;
-    let Blocks {
-        file, first, write, ..
-    } = blocks;
     let before = Blocks {
-        file,
-        first,
+        file: blocks.file,
+        first: blocks.first,
         count: kept,
-        write,
+        write: blocks.write,
     };
     let behind = Blocks {
-        file,
-        first: first + kept,
+        file: blocks.file,
+        first: blocks.first + kept,
         count: gone,
-        write,
+        write: blocks.write,
     };
     (before, behind)
+}
+
+/// Blocks, where they are more than so many.
+fn cut_by(touched: &Touched, most: u128) -> Option<Blocks>
+    requires { 0 < most }
+    ensures same { IfSome result (λ blocks. touched.now ≡ Touched.Blocks blocks) }
+    ensures more { IfSome result (λ blocks. most < blocks.count) }
+    ensures few { IfNone result (length (touches_of touched.now) ≤ most) }
+{
+    match touched {
+        Touched::Blocks(blocks) if u128::from(blocks.count) > most => Some(*blocks),
+        _ => None,
+    }
 }
 
 /// Takes the last entry away, or so many of its last blocks, where it has more. It takes no memory.
@@ -151,13 +195,14 @@ fn pop_entry(entries: &mut Entries, most: u128) -> Option<Touched>
     ensures few { IfSome result (λ t. length (touches_of t) ≤ most) }
     ensures none { IfNone result (entries.old.items ≡ []) }
 {
-    let last = entries.len().checked_sub(1)?;
-    if let Touched::Blocks(blocks) = &entries[last] {
-        if u128::from(blocks.count) > most {
-            let (kept, gone) = cut(*blocks, most as u32);
-            entries[last] = Touched::Blocks(kept);
-            return Some(Touched::Blocks(gone));
-        }
+    let count = entries.len();
+    if count == 0 {
+        return None;
+    }
+    if let Some(blocks) = cut_by(&entries[count - 1], most) {
+        let (kept, gone) = cut(blocks, most as u32);
+        entries[count - 1] = Touched::Blocks(kept);
+        return Some(Touched::Blocks(gone));
     }
     entries.pop()
 }

@@ -72,6 +72,14 @@ fn pop_from(journals: &mut List, pid: Pid, most: u128) -> Touched
     journals[pid.0 as usize].pop(most).unwrap()
 }
 
+/// How many touches a process has.
+fn count_in(journals: &List, pid: Pid) -> u128
+    requires { pid < length journals.now.items }
+    ensures { result ≡ length (touched_by journals.now.items pid) }
+{
+    journals[pid.0 as usize].count()
+}
+
 /// All touches are taken from a journal.
 fn clear_at(journals: &mut List, pid: Pid)
     requires { pid < length journals.old.items }
@@ -125,7 +133,7 @@ impl Journals {
         requires { pid < length self.now }
         ensures { result ≡ length (touched_by self.now pid) }
     {
-        self.list[pid.0 as usize].count()
+        count_in(&self.list, pid)
     }
 
     /// How many entries they stand in.
@@ -198,7 +206,7 @@ impl Journals {
             ≡ touched_by self.new pid ++ touches_of result }
     {
         let touched = pop_from(&mut self.list, pid, most);
-        self.active -= usize::from(self.count(pid) == 0);
+        self.active -= usize::from(count_in(&self.list, pid) == 0);
         touched
     }
 

@@ -10,17 +10,17 @@ ghost use Rattle.touches.specs.Expanded.{expanded, touches_of};
 
 use crate::holders::collect;
 use crate::block_holders::collect_users;
-use crate::index::{Index, clear, is_filled_by, leave};
+use crate::index::{Index, clear, is_filled_by};
 use crate::journals::Journals;
 use crate::mark::Mark;
-use crate::noting::{leave_run, note_blocks, note_one, only};
+use crate::noting::{leave_touched, note_touched};
 use crate::rows::{Rows, next_start, row_of};
 use heap::Heap;
 use ids::{Aspect, Num, Pid, Touch};
 use std::alloc::AllocError;
 use std::collections::{BTreeMap, BTreeSet, HashMap};
 use std::marker::Model;
-use touches::{Blocks, Touched, Touches};
+use touches::{Touched, Touches};
 
 /// What each process's live transaction touched. Contracts see the touches of each process, each
 /// once, in the order in which they first came.
@@ -147,18 +147,6 @@ impl Records {
         next_start(&self.rows, file, block, last)
     }
 
-    /// Blocks more of a process, but those that it has already. Refused memory may leave some of
-    /// them.
-    fn add_blocks(&mut self, pid: Pid, blocks: Blocks) -> Result<(), AllocError>
-        requires { pid < length self.old }
-        ensures ok { OnOk result (self.new ≡ set self.old pid
-            (with_touches (touched_by self.old pid) (touches_of (Touched.Blocks blocks)))) }
-        ensures some { (ts : List OfModel) × (self.new
-            ≡ set self.old pid (with_touches (touched_by self.old pid) ts)) }
-    {
-        note_blocks(self.heap, &mut self.journals, &mut self.rows, pid, blocks)
-    }
-
     /// Touches more of a process, but those that it has already. Refused memory may leave some of
     /// them.
     fn add_one(&mut self, pid: Pid, touched: Touched) -> Result<(), AllocError>
@@ -168,13 +156,14 @@ impl Records {
         ensures some { (ts : List OfModel) × (self.new
             ≡ set self.old pid (with_touches (touched_by self.old pid) ts)) }
     {
-        match touched {
-            Touched::One(touch) => match touch.aspect {
-                Aspect::Block(file, block) => self.add_blocks(pid, only(file, block, touch.write)),
-                _ => note_one(self.heap, &mut self.journals, &mut self.index, pid, touch),
-            },
-            Touched::Blocks(blocks) => self.add_blocks(pid, blocks),
-        }
+        note_touched(
+            self.heap,
+            &mut self.journals,
+            &mut self.index,
+            &mut self.rows,
+            pid,
+            touched,
+        )
     }
 
     /// The last touches of a process are forgotten, so many at most of those that stand together.
@@ -185,15 +174,8 @@ impl Records {
         requires some { 0 < length (touched_by self.old pid) }
         ensures { IsShorter self.old self.new pid most }
     {
-        match self.journals.pop(pid, most) {
-            Touched::One(touch) => match &touch.aspect {
-                Aspect::Block(file, block) => {
-                    leave_run(&mut self.rows, pid, only(*file, *block, touch.write));
-                }
-                _ => leave(&mut self.index, pid, &touch),
-            },
-            Touched::Blocks(blocks) => leave_run(&mut self.rows, pid, blocks),
-        }
+        let touched = self.journals.pop(pid, most);
+        leave_touched(&mut self.index, &mut self.rows, pid, &touched);
     }
 
     /// A process's touches behind the first so many are forgotten. It takes no memory, and as many
