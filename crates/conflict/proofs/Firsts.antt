@@ -82,3 +82,15 @@ firsts_more lists pid ts us found own new before are noted = (
 -- and where these have none
 pub firsts_same : (lists : List (List Touch)) (pid : ℕ) (ts us : List Touch) (found : List Clash) → AreFirstClashes lists pid ts found → AreClashes lists pid us [] → AreFirstClashes lists pid (ts ++ us) found
 firsts_same lists pid ts us found before are = firsts_more lists pid ts us found [] found before are (subst (λ (l : List Clash). AreFirstsOf l found) (sym (append-nil found)) (same_firsts found))
+
+-- all that was left to be gone over is noted
+pub firsts_end : (old new it keys left : List Clash) → it ≡ keys → left ≡ [] → AreFirstsOf (old ++ it) (new ++ left) → AreFirstsOf (old ++ keys) new
+firsts_end old new it keys left is none first =
+    subst (λ (l : List Clash). AreFirstsOf (old ++ l) new) is (subst (λ (l : List Clash). AreFirstsOf (old ++ it) l) (ap (λ l. new ++ l) none ∙ append-nil new) first)
+
+-- where there is nothing to be noted
+pub firsts_none : (found : List Clash) → AreFirstsOf (found ++ []) found
+firsts_none found = subst (λ (l : List Clash). AreFirstsOf l found) (sym (append-nil found)) (same_firsts found)
+
+pub no_first_clashes : (lists : List (List Touch)) (pid : ℕ) → AreFirstClashes lists pid [] []
+no_first_clashes lists pid = ([], refl, same_firsts [])

@@ -2,3 +2,4 @@ mod Names
 mod Placed
 pub mod Firsts
 mod Runs
+mod Steps

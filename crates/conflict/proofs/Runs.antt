@@ -1,6 +1,6 @@
 -- Of blocks next to each other: where whoever touched a block touched the one before it too, its clashes
 -- are with nobody new.
-use Rattle.std.proofs.Common.{◌≡◌, ◌∙◌, sym, refl, ap, subst, ℕ, zero, suc, ◌+◌, ◌<◌, ◌≤◌, Bool, true, false, not, ◌&&◌, ◌||◌, ◌==◌, List, [], ◌∷◌, ◌++◌, Option, Some, None, if◌then◌else◌, arith}
+use Rattle.std.proofs.Common.{◌≡◌, ◌∙◌, sym, refl, ap, subst, ℕ, zero, suc, ◌+◌, ◌<◌, ◌≤◌, Bool, true, false, not, ◌&&◌, ◌||◌, ◌==◌, List, [], ◌∷◌, ◌++◌, Option, Some, None, if◌then◌else◌, append_assoc, arith}
 use Rattle.std.specs.Prelude.{nat_lt}
 use Rattle.std.specs.Option.{option_or}
 use Rattle.std.specs.List.{AllByRecursion}
@@ -13,11 +13,11 @@ use Rattle.records.specs.Holders.{GoesOn}
 use Rattle.records.specs.Touches.{touched_by}
 use Rattle.records.proofs.Exact.{aspect_is, aspect_itself}
 use Rattle.touches.specs.Expanded.{touches_of_blocks}
-use Rattle.touches.proofs.Runs.{block_touch, blocks_more}
+use Rattle.touches.proofs.Runs.{block_touch, blocks_more, blocks_append}
 use Rattle.conflict.specs.Clashing.{rank_of, name_of, is_before, is_found, AreInOrder, AreClashesOf, AreClashes}
 use Rattle.conflict.specs.Firsts.{first_with, AreFirstsOf}
 use Rattle.conflict.specs.declared.found.Clash.{Clash}
-use Rattle.conflict.proofs.Firsts.{first_append, same_firsts, clashes_of_one}
+use Rattle.conflict.proofs.Firsts.{first_append, same_firsts, firsts_append, firsts_via, clashes_append, clashes_of_one}
 use Rattle.conflict.proofs.Placed.{AllClash, all_clash, clashes_more, second_of}
 
 -- of the clashes on a block those with processes that touched the next one in the same way
@@ -270,3 +270,19 @@ flat lists pid f b (suc k) w own are goes =
       behind = behind;
       nobody = nobody;
     })
+
+-- one row of blocks more, behind those that were gone over
+pub row_more : (lists : List (List Touch)) (pid f first n b k : ℕ) (w : Bool) (initial own here now_found new : List Clash) → first + n ≡ b
+    → AreClashes lists pid (touches_of_blocks f first n w) own → AreFirstsOf (initial ++ own) here
+    → AreClashesOf lists pid (block_touch f b w) now_found → AreFirstsOf (here ++ now_found) new
+    → ((y : ℕ) → b ≤ y → y < b + k → GoesOn lists f y)
+    → (o : List Clash) × AreClashes lists pid (touches_of_blocks f first (n + suc k) w) o × AreFirstsOf (initial ++ o) new
+row_more lists pid f first n b k w initial own here now_found new at are firsts now noted goes =
+    let row = flat lists pid f b k w now_found now goes in
+    let all : List Clash = row.0 in
+    let is : IsFlat lists pid f b k w now_found all row.1 = row.2 in
+    let both : AreClashes lists pid (touches_of_blocks f first n w ++ touches_of_blocks f b (suc k) w) (own ++ all) = clashes_append lists pid (touches_of_blocks f first n w) (touches_of_blocks f b (suc k) w) own all are is.clashes in
+    let joined : touches_of_blocks f first n w ++ touches_of_blocks f b (suc k) w ≡ touches_of_blocks f first (n + suc k) w = ap (λ a. touches_of_blocks f first n w ++ touches_of_blocks f a (suc k) w) (sym at) ∙ blocks_append f first n (suc k) w in
+    (own ++ all, subst (λ (ts : List Touch). AreClashes lists pid ts (own ++ all)) joined both,
+    subst (λ (l : List Clash). AreFirstsOf l new) (append_assoc initial own all)
+    (firsts_via ((initial ++ own) ++ all) (here ++ now_found) new (firsts_append (initial ++ own) here all now_found firsts is.firsts) noted))

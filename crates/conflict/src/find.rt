@@ -66,7 +66,6 @@ impl Model for FirstClashes {
     ghost use Rattle.std.specs.BTreeSet.{contains};
     ghost use Rattle.std.specs.Ordering.{nat_cmp};
     ghost use Rattle.conflict.specs.declared.found.Clash.{Clash};
-ghost use Rattle.touches.specs.Expanded.{expanded, touches_of, touches_of_blocks};
     ghost use Rattle.conflict.specs.Firsts.{is_met};
 
     ghost Value = { List Clash };
@@ -116,7 +115,8 @@ impl FirstClashes {
         if marks.is_empty() {
             return Ok(());
         }
-        for clash in in_order(self.heap, touch, marks)? {
+        let set = in_order(self.heap, touch, marks)?;
+        for clash in set {
             self.push(clash)?;
         }
         Ok(())
@@ -140,7 +140,7 @@ impl FirstClashes {
         }
         let last = blocks.first + (blocks.count - 1);
         let mut block = blocks.first;
-        loop {
+        'rows: loop {
             let touch = Touch {
                 aspect: Aspect::Block(blocks.file, block),
                 write: blocks.write,

@@ -180,8 +180,14 @@ fn cut_by(touched: &Touched, most: u128) -> Option<Blocks>
     ensures few { IfNone result (length (touches_of touched.now) ≤ most) }
 {
     match touched {
-        Touched::Blocks(blocks) if u128::from(blocks.count) > most => Some(*blocks),
-        _ => None,
+        Touched::Blocks(blocks) => {
+            if u128::from(blocks.count) > most {
+                Some(*blocks)
+            } else {
+                None
+            }
+        }
+        Touched::One(_) => None,
     }
 }
 

@@ -6,8 +6,8 @@ use Rattle.touches.specs.Expanded.{touches_of_blocks}
 use Rattle.conflict.proofs.find.FirstClashes.add_blocks.Given as goal
 
 -- the blocks before this one are done
-abbrev pub invariant-loop-block : goal.invariant-loop-block
-invariant-loop-block l = record {
+abbrev pub invariant-rows : goal.invariant-rows
+invariant-rows l = record {
   from : l.blocks.first ≤ l.block;
   to : l.block ≤ l.last;
   done : (own : List Clash)
@@ -15,5 +15,5 @@ invariant-loop-block l = record {
       × AreFirstsOf (l.initial.self ++ own) l.self;
 }
 
-abbrev pub decreases-loop-block : goal.decreases-loop-block
-decreases-loop-block l = l.last - l.block
+abbrev pub decreases-rows : goal.decreases-rows
+decreases-rows l = l.last - l.block
