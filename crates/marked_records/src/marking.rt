@@ -1,5 +1,6 @@
 // What touches mark at directories, and the holder table after each.
-ghost use Rattle.std.specs.Prelude.{◌≡◌, ℕ, ◌≤◌, ◌==◌, ◌&&◌, if◌then◌else◌, OnOk, OnErr, take, length};
+ghost use Rattle.std.specs.Prelude.{◌≡◌, ◌≢◌, ℕ, ◌≤◌, ◌==◌, ◌&&◌, ◌∷◌, ◌++◌, List, OnOk, OnErr, take, length};
+ghost use Rattle.std.specs.Prelude.{if◌then◌else◌};
 ghost use Rattle.std.specs.List.{list_any};
 ghost use Rattle.model.specs.Modes.{reads_names};
 ghost use Rattle.list_modes.specs.Holding.{held_of, IsPartOf};
@@ -31,22 +32,34 @@ fn changes_names(touch: &Touch, dir: Num) -> bool
     }
 }
 
+fn one_reads(touched: &Touched, dir: Num) -> bool
+    ensures { result ≡ list_any (λ t. reads_names dir t.aspect) (touches_of touched.now) }
+{
+    match touched {
+        Touched::One(touch) => reads_names(touch, dir),
+        Touched::Blocks(_) => false,
+    }
+}
+
+fn one_changes(touched: &Touched, dir: Num) -> bool
+    ensures { result ≡ list_any (λ t. changes_names dir t.aspect t.write) (touches_of touched.now) }
+{
+    match touched {
+        Touched::One(touch) => changes_names(touch, dir),
+        Touched::Blocks(_) => false,
+    }
+}
+
 fn any_reads(touches: &[Touched], dir: Num) -> bool
     ensures { result ≡ list_any (λ t. reads_names dir t.aspect) (expanded touches.now) }
 {
-    touches.iter().any(|touched| match touched {
-        Touched::One(touch) => reads_names(touch, dir),
-        Touched::Blocks(_) => false,
-    })
+    touches.iter().any(|touched| one_reads(touched, dir))
 }
 
 fn any_changes(touches: &[Touched], dir: Num) -> bool
     ensures { result ≡ list_any (λ t. changes_names dir t.aspect t.write) (expanded touches.now) }
 {
-    touches.iter().any(|touched| match touched {
-        Touched::One(touch) => changes_names(touch, dir),
-        Touched::Blocks(_) => false,
-    })
+    touches.iter().any(|touched| one_changes(touched, dir))
 }
 
 /// What these touches mark at a directory.
@@ -86,7 +99,7 @@ pub fn mark_one(holders: &mut Holders, pid: Pid, touched: &Touched) -> Result<()
 
 /// Where a touch marks a directory, a process holds there only what these touches mark. It takes no
 /// memory.
-pub fn unmark(holders: &mut Holders, pid: Pid, touch: &Touch, kept: &[Touched])
+fn unmark(holders: &mut Holders, pid: Pid, touch: &Touch, kept: &[Touched])
     requires { (d : ℕ) → IsPartOf (marks_at d (expanded kept.now)) (held_of holders.old pid d) }
     ensures { SetsMarks holders.old holders.new pid (λ d. if is_mark_at d touch.now
         then marks_at d (expanded kept.now) else held_of holders.old pid d) }
@@ -115,6 +128,20 @@ pub fn entries_of(touches: &[Touched], count: u128) -> usize
     touches.len()
 }
 
+/// The same of touches of an entry of a journal.
+fn unmark_one(holders: &mut Holders, pid: Pid, touched: &Touched, kept: &[Touched])
+    requires { (d : ℕ) → IsPartOf (marks_at d (expanded kept.now)) (held_of holders.old pid d) }
+    ensures others { (p d : ℕ) → p ≢ pid → held_of holders.new p d ≡ held_of holders.old p d }
+    ensures least { (d : ℕ) → IsPartOf (marks_at d (expanded kept.now)) (held_of holders.new pid d) }
+    ensures most { (rest : List Touched) (d : ℕ) → IsPartOf (held_of holders.old pid d)
+        (marks_at d (expanded (kept.now ++ touched.now ∷ rest)))
+        → IsPartOf (held_of holders.new pid d) (marks_at d (expanded (kept.now ++ rest))) }
+{
+    if let Touched::One(touch) = touched {
+        unmark(holders, pid, touch, kept);
+    }
+}
+
 /// A process holds what its first touches mark, where it held that and no more than all of these
 /// mark. It takes no memory.
 pub fn unmark_behind(holders: &mut Holders, pid: Pid, touches: &[Touched], count: u128)
@@ -125,8 +152,6 @@ pub fn unmark_behind(holders: &mut Holders, pid: Pid, touches: &[Touched], count
     let first = entries_of(touches, count);
     let kept = &touches[..first];
     for i in first..touches.len() {
-        if let Touched::One(touch) = &touches[i] {
-            unmark(holders, pid, touch, kept);
-        }
+        unmark_one(holders, pid, &touches[i], kept);
     }
 }
