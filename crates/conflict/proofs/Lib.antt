@@ -2,4 +2,4 @@ mod Names
 mod Placed
 pub mod Firsts
 mod Runs
-mod Steps
+pub mod Steps

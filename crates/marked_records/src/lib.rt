@@ -14,7 +14,8 @@ ghost use Rattle.records.specs.Touches.{touched_by, with_touches};
 ghost use Rattle.marked_records.specs.Marks.{SetsMarks, marks_at, mode_by_touches};
 ghost use Rattle.marked_records.specs.Marks.{others_write};
 ghost use Rattle.conflict.specs.Clashing.{AreClashes};
-ghost use Rattle.conflict.specs.Firsts.{AreFirstClashes};
+ghost use Rattle.conflict.specs.Firsts.{AreFirstsOf, AreFirstClashes};
+ghost use Rattle.conflict.specs.declared.found.Clash.{Clash};
 ghost use Rattle.touches.specs.Expanded.{expanded, touches_of};
 
 mod marking;
@@ -185,6 +186,24 @@ impl MarkedRecords {
         }
     }
 
+    // The clashes of these touches, with those that were not met before.
+    fn add_clashes(
+        &self,
+        caller: Pid,
+        touched: &Touched,
+        found: &mut FirstClashes,
+    ) -> Result<(), AllocError>
+        ensures { OnOk result ((own : List Clash)
+            × AreClashes self.now caller (touches_of touched.now) own
+            × AreFirstsOf (found.old ++ own) found.new) }
+    {
+        if self.may_clash(caller, touched) {
+            found.add(&self.records, caller, touched)
+        } else {
+            Ok(())
+        }
+    }
+
     /// Whether a process other than the caller has touched something: where none has, nothing
     /// clashes, whatever the caller touches. It takes no memory, and no look-up of an aspect.
     pub fn others_touched(&self, caller: Pid) -> bool
@@ -210,9 +229,7 @@ impl MarkedRecords {
             return Ok(found);
         }
         for touched in touches.as_slice() {
-            if self.may_clash(caller, touched) {
-                found.add(&self.records, caller, touched)?;
-            }
+            self.add_clashes(caller, touched, &mut found)?;
         }
         Ok(found)
     }
