@@ -1,9 +1,14 @@
 -- The first clash with one of some processes: of lists that are joined, and where clashes are left out
 -- that cannot be the first.
-use Rattle.std.proofs.Common.{◌≡◌, ◌∙◌, sym, refl, ap, subst, ℕ, Bool, true, false, ◌||◌, ◌==◌, List, [], ◌∷◌, ◌++◌, Option, Some, None, if◌then◌else◌, append_assoc}
+use Rattle.std.proofs.Common.{◌≡◌, ◌∙◌, sym, refl, ap, subst, ℕ, Bool, true, false, cond, ◌||◌, ◌==◌, List, [], ◌∷◌, ◌++◌, Option, Some, None, if◌then◌else◌, append_assoc}
+use Rattle.std.specs.BTreeSet.{BTreeSet, contains}
 use Rattle.std.specs.Option.{option_or}
-use Rattle.std.proofs.lemmas.Bool.{false≢true, eqb-true}
+use Rattle.std.specs.Ordering.{is_eq, nat_cmp}
+use Rattle.std.proofs.lemmas.Bool.{false≢true, eqb-true, eq-eqb}
 use Rattle.std.proofs.lemmas.List.{append-nil}
+use Rattle.std.proofs.lemmas.List.Folds.{list_any-append}
+use Rattle.model.specs.FiniteMap.{nat_cmp-IsAntisymmetric}
+use Rattle.model.proofs.Laws.{tie}
 use Rattle.model.specs.Steps.{Touch}
 use Rattle.conflict.specs.Clashing.{AreClashes, AreClashesOf}
 use Rattle.conflict.specs.Firsts.{first_with, is_met, AreFirstsOf, AreFirstClashes}
@@ -94,3 +99,21 @@ firsts_none found = subst (λ (l : List Clash). AreFirstsOf l found) (sym (appen
 
 pub no_first_clashes : (lists : List (List Touch)) (pid : ℕ) → AreFirstClashes lists pid [] []
 no_first_clashes lists pid = ([], refl, same_firsts [])
+
+-- who was met still is, and so is the process of what is noted
+or_right : (a b : Bool) → b ≡ true → (a || b) ≡ true
+or_right true b e = refl
+or_right false b e = e
+
+pub met_before : (q : ℕ) (xs : List Clash) (c : Clash) → is_met q xs ≡ true → is_met q (xs ++ c ∷ []) ≡ true
+met_before q xs c met = list_any-append (λ d. d.other == q) xs (c ∷ []) ∙ ap (λ b. b || ((c.other == q) || false)) met
+
+met_last : (xs : List Clash) (c : Clash) → is_met c.other (xs ++ c ∷ []) ≡ true
+met_last xs c = list_any-append (λ d. d.other == c.other) xs (c ∷ []) ∙ or_right (is_met c.other xs) ((c.other == c.other) || false) (ap (λ b. b || false) (eq-eqb c.other c.other refl))
+
+pub met_noted : (before after : BTreeSet ℕ) (xs : List Clash) (c : Clash) → ((q : ℕ) → contains nat_cmp before q ≡ true → is_met q xs ≡ true)
+    → ((q : ℕ) → contains nat_cmp after q ≡ cond (is_eq (nat_cmp c.other q)) true (contains nat_cmp before q)) → (q : ℕ) → contains nat_cmp after q ≡ true → is_met q (xs ++ c ∷ []) ≡ true
+met_noted before after xs c was updates q has = by (is_eq (nat_cmp c.other q)) refl where
+  by : (b : Bool) → is_eq (nat_cmp c.other q) ≡ b → is_met q (xs ++ c ∷ []) ≡ true
+  by true e = ap (λ p. is_met p (xs ++ c ∷ [])) (sym (nat_cmp-IsAntisymmetric c.other q (tie (nat_cmp c.other q) e))) ∙ met_last xs c
+  by false e = met_before q xs c (was q (sym (updates q ∙ ap (λ b. cond b true (contains nat_cmp before q)) e) ∙ has))

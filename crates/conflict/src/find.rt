@@ -47,7 +47,7 @@ fn in_order(
 pub struct FirstClashes {
     heap: Heap,
     found: Vec<Clash, Heap>,
-    /// The processes of these.
+    /// The processes of these; all but one, where memory for it was refused.
     met: BTreeSet<u32, Heap>,
 }
 
@@ -62,7 +62,7 @@ impl Drop for FirstClashes {
 }
 
 impl Model for FirstClashes {
-    ghost use Rattle.std.specs.Prelude.{◌≡◌, ℕ, List};
+    ghost use Rattle.std.specs.Prelude.{◌≡◌, ℕ, true, List};
     ghost use Rattle.std.specs.BTreeSet.{contains};
     ghost use Rattle.std.specs.Ordering.{nat_cmp};
     ghost use Rattle.conflict.specs.declared.found.Clash.{Clash};
@@ -72,7 +72,8 @@ impl Model for FirstClashes {
 
     ghost view = { λ f. f.found.items };
 
-    ghost invariant = { λ f. (q : ℕ) → contains nat_cmp f.met q ≡ is_met q f.found.items };
+    ghost invariant = { λ f. (q : ℕ) → contains nat_cmp f.met q ≡ true
+        → is_met q f.found.items ≡ true };
 }
 
 impl FirstClashes {
@@ -98,9 +99,12 @@ impl FirstClashes {
     fn push(&mut self, clash: Clash) -> Result<(), AllocError>
         ensures { OnOk result (AreFirstsOf (self.old ++ clash ∷ []) self.new) }
     {
-        if self.met.insert(clash.other.0)? {
-            self.found.push(clash)?;
+        let other = clash.other.0;
+        if self.met.contains(&other) {
+            return Ok(());
         }
+        self.found.push(clash)?;
+        self.met.insert(other)?;
         Ok(())
     }
 

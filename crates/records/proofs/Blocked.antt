@@ -131,5 +131,5 @@ holders_without lists caller t found other are = record {
   by q u false e = ap (λ x. clash t u && x) (has_by u lists q e)
 
 pub other_aspect : (a : Aspect) → ((f b : ℕ) → a ≡ Block f b → ⊥) → is_block_aspect a ≡ false
-other_aspect (Block f b) not = absurd (not f b refl)
-other_aspect a not = refl
+other_aspect (Block f b) never = absurd (never f b refl)
+other_aspect a never = refl

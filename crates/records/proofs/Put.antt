@@ -17,16 +17,16 @@ or_right false b e = e
 or_right true b e = cc
 
 pub any_at : (test : Holding → Bool) (hs : List Holding) (i : ℕ) (h : Holding) → i < length hs → h ≡ get_or hs i h → test h ≡ true → list_any test hs ≡ true
-any_at test [] i h lt is yes = absurd (omega arith)
-any_at test (g ∷ hs) zero h lt is yes = ap (λ x. test x || list_any test hs) (sym is) ∙ ap (λ t. t || list_any test hs) yes
-any_at test (g ∷ hs) (suc i) h lt is yes = ap (λ r. test g || r) (any_at test hs i h (omega arith) is yes) ∙ or_true (test g) where
+any_at test [] i h lt is passes = absurd (omega arith)
+any_at test (g ∷ hs) zero h lt is passes = ap (λ x. test x || list_any test hs) (sym is) ∙ ap (λ t. t || list_any test hs) passes
+any_at test (g ∷ hs) (suc i) h lt is passes = ap (λ r. test g || r) (any_at test hs i h (omega arith) is passes) ∙ or_true (test g) where
   or_true : (a : Bool) → (a || true) ≡ true
   or_true true = refl
   or_true false = refl
 
 -- what is found has each block up to its last one
 pub used_there : (pid block : ℕ) (v : Bool) (hs : List Holding) (i : ℕ) (h : Holding) → i < length hs → h ≡ get_or hs i h → (is_own pid v h && has_block block h) ≡ true → (b : ℕ) → b ≤ h.last → uses pid v b hs ≡ true
-used_there pid block v hs i h lt is yes b le = any_at (λ g. is_own pid v g && has_block b g) hs i h lt is (both (is_own pid v h) (has_block block h) yes) where
+used_there pid block v hs i h lt is passes b le = any_at (λ g. is_own pid v g && has_block b g) hs i h lt is (both (is_own pid v h) (has_block block h) passes) where
   here : has_block b h ≡ true
   here = grind (arith, nat_tests)
 
@@ -35,7 +35,7 @@ used_there pid block v hs i h lt is yes b le = any_at (λ g. is_own pid v g && h
   both false k e = absurd (false≢true e)
 
 pub reaches : (pid block : ℕ) (v : Bool) (h : Holding) → (is_own pid v h && has_block block h) ≡ true → block ≤ h.last
-reaches pid block v h yes = by (is_own pid v h) (has_block block h) refl yes where
+reaches pid block v h passes = by (is_own pid v h) (has_block block h) refl passes where
   by : (a k : Bool) → has_block block h ≡ k → (a && k) ≡ true → block ≤ h.last
   by true true is e = grind (arith, nat_tests)
   by true false is e = absurd (false≢true e)
@@ -43,22 +43,25 @@ reaches pid block v h yes = by (is_own pid v h) (has_block block h) refl yes whe
 
 -- what does not pass leaves a search to what is behind it
 pub none_here : (test : Holding → Bool) (hs : List Holding) (i : ℕ) (h : Holding) → i < length hs → h ≡ get_or hs i h → test h ≡ false → list_any test (drop (i + 1) hs) ≡ list_any test (drop i hs)
-none_here test hs i h lt is no = sym (at_drop_more (list_any test) hs i h lt ∙ ap (λ x. test x || list_any test (drop (i + 1) hs)) (sym is) ∙ ap (λ t. t || list_any test (drop (i + 1) hs)) no)
+none_here test hs i h lt is off = sym (at_drop_more (list_any test) hs i h lt ∙ ap (λ x. test x || list_any test (drop (i + 1) hs)) (sym is) ∙ ap (λ t. t || list_any test (drop (i + 1) hs)) off)
 
 -- or leaves those before it without one that passes
 pub none_yet : (test : Holding → Bool) (hs : List Holding) (i : ℕ) (h : Holding) → i < length hs → h ≡ get_or hs i h → test h ≡ false → list_any test (take i hs) ≡ false → list_any test (take (i + 1) hs) ≡ false
-none_yet test hs i h lt is no none =
+none_yet test hs i h lt is off none =
     ap (list_any test) (take_more hs i h lt)
     ∙ list_any-append test (take i hs) (get_or hs i h ∷ [])
     ∙ ap (λ a. a || (test (get_or hs i h) || false)) none
     ∙ ap (λ x. test x || false) (sym is)
-    ∙ ap (λ t. t || false) no
+    ∙ ap (λ t. t || false) off
 
 -- one's use is changed at its place,
+abbrev moved : ℕ → Holding → Holding
+moved last h = record h { last = last }
+
 pub with_use_at : (pid last : ℕ) (v : Bool) (hs : List Holding) (i : ℕ) (h : Holding) → i < length hs → h ≡ get_or hs i h → list_any (is_own pid v) (take i hs) ≡ false → is_own pid v h ≡ true → set hs i (record h { last = last }) ≡ with_use pid v last hs
 with_use_at pid last v [] i h lt is none own = absurd (omega arith)
 with_use_at pid last v (g ∷ hs) zero h lt is none own =
-    ap (λ x. record x { last = last } ∷ hs) is ∙ sym (ap (λ t. if t then record g { last = last } ∷ hs else g ∷ with_use pid v last hs) (sym (ap (is_own pid v) is) ∙ own))
+    ap (λ x. moved last x ∷ hs) is ∙ sym (ap (λ t. if t then record g { last = last } ∷ hs else g ∷ with_use pid v last hs) (sym (ap (is_own pid v) is) ∙ own))
 with_use_at pid last v (g ∷ hs) (suc i) h lt is none own =
     ap (λ l. g ∷ l) (with_use_at pid last v hs i h (omega arith) is (or_right (is_own pid v g) (list_any (is_own pid v) (take i hs)) none) own)
     ∙ sym (ap (λ t. if t then record g { last = last } ∷ hs else g ∷ with_use pid v last hs) (or_left (is_own pid v g) (list_any (is_own pid v) (take i hs)) none))
