@@ -2,8 +2,8 @@
 use Rattle.std.proofs.Common.{◌≡◌, ◌≢◌, ℕ, zero, suc, ◌+◌, ◌-◌, ◌<◌, ◌≤◌, refl, sym, ◌∙◌, ap, subst, true, false, Bool, List, [], ◌∷◌, ◌++◌, map, take, drop, length, get_or, if◌then◌else◌, append_assoc, arith}
 use Rattle.std.specs.Prelude.{◌||◌, ◌&&◌, ◌==◌}
 use Rattle.std.specs.List.{list_any}
-use Rattle.std.proofs.lemmas.Bool.{false≢true, eqb-true, eq-eqb, ne_eqb, or_left}
-use Rattle.std.proofs.lemmas.List.{append-nil, take_more, take_all, take-append-drop, take-take, length-append, get_or_default}
+use Rattle.std.proofs.lemmas.Bool.{false≢true, eqb-true, eqb-false, eq-eqb, ne_eqb, or_left}
+use Rattle.std.proofs.lemmas.List.{append-nil, at_drop_more, take_more, take_all, take-append-drop, take-take, length-append}
 use Rattle.std.proofs.lemmas.List.Concat.{flat_map-append}
 use Rattle.std.proofs.lemmas.List.Folds.{list_any-append}
 use Rattle.model.specs.Steps.{Touch}
@@ -170,3 +170,44 @@ between_entries table p count n i xs le same held = record {
   within : (d n i : ℕ) (ys : List Touched) {zs : List Touched} → take n ys ≡ zs → IsPartOf (marks_at d (expanded zs)) (marks_at d (expanded ys))
   within d n i ys e = subst (λ (l : List Touched). IsPartOf (marks_at d (expanded l)) (marks_at d (expanded ys))) e
       (subst (λ (l : List Touched). IsPartOf (marks_at d (expanded (take n ys))) (marks_at d (expanded l))) (take-append-drop n ys) (kept_part d (take n ys) (drop n ys)))
+
+-- one entry more of the first so many touches
+module _ (d : ℕ) (xs : List Touched) (i : ℕ) (x : Touched) (count left n : ℕ) (within : i < length xs) (is : x ≡ get_or xs i x) (long : n ≡ length (touches_of x)) (some : 0 < left)
+    (reach : left + length (expanded (take i xs)) ≡ count) where
+  take_is : take (i + 1) xs ≡ take i xs ++ x ∷ []
+  take_is = take_more xs i x within ∙ ap (λ y. take i xs ++ y ∷ []) (sym is)
+
+  whole : take i xs ++ x ∷ drop (i + 1) xs ≡ xs
+  whole = ap (λ y. take i xs ++ y ∷ drop (i + 1) xs) is ∙ sym (at_drop_more (λ l. take i xs ++ l) xs i x within) ∙ take-append-drop i xs
+
+  pub step_none : left - n ≡ 0 → marks_at d (expanded (take (i + 1) xs)) ≡ marks_at d (take count (expanded xs))
+  step_none e =
+      ap (λ l. marks_at d (expanded l)) take_is
+      ∙ reached d (take i xs) (drop (i + 1) xs) x count left reach some (omega arith)
+      ∙ ap (λ l. marks_at d (take count (expanded l))) whole
+
+  pub step_some : 0 < left - n → (left - n) + length (expanded (take (i + 1) xs)) ≡ count
+  step_some more =
+      let e : length (expanded (take (i + 1) xs)) ≡ length (expanded (take i xs)) + length (touches_of x) =
+          ap (λ l. length (expanded l)) take_is ∙ ap length (expanded_append (take i xs) (x ∷ []) ∙ ap (λ l. expanded (take i xs) ++ l) (append-nil (touches_of x))) ∙ length-append (expanded (take i xs)) (touches_of x) in
+      omega arith
+
+-- and all entries
+pub ends_all : (d count left : ℕ) (xs : List Touched) → left + length (expanded xs) ≡ count → marks_at d (expanded xs) ≡ marks_at d (take count (expanded xs))
+ends_all d count left xs e = all_reached d (expanded xs) count (omega arith)
+
+-- what is held lies between two that are the same
+bool_same : (a b : Bool) → (a ≡ true → b ≡ true) → (b ≡ true → a ≡ true) → a ≡ b
+bool_same true b f g = sym (f refl)
+bool_same false true f g = g refl
+bool_same false false f g = refl
+
+pub held_between : (a b : Held) → IsPartOf a b → IsPartOf b a → b ≡ a
+held_between a b least most = held_equal b a (bool_same b.names_read a.names_read most.names_read least.names_read) (bool_same b.entry_written a.entry_written most.entry_written least.entry_written)
+
+pub sets_kept : (old new : Table) (p : ℕ) (kept : List Touched) (f : ℕ → Held) → ((q d : ℕ) → q ≢ p → held_of new q d ≡ held_of old q d) → ((d : ℕ) → IsPartOf (marks_at d (expanded kept)) (held_of new p d)) → ((d : ℕ) → IsPartOf (held_of new p d) (marks_at d (expanded kept)))
+    → ((d : ℕ) → marks_at d (expanded kept) ≡ f d) → SetsMarks old new p f
+sets_kept old new p kept f others least most is q d = by (q == p) refl where
+  by : (b : Bool) → (q == p) ≡ b → held_of new q d ≡ (if b then f d else held_of old q d)
+  by true e = ap (λ x. held_of new x d) (eqb-true q p e) ∙ held_between (marks_at d (expanded kept)) (held_of new p d) (least d) (most d) ∙ is d
+  by false e = others q d (eqb-false q p e)

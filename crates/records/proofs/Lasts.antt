@@ -1,5 +1,5 @@
 -- The entries of a journal and the touches that they stand for, as the last one changes, comes or goes.
-use Rattle.std.proofs.Common.{◌≡◌, ◌∙◌, sym, refl, ap, subst, ℕ, zero, suc, ◌+◌, ◌-◌, ◌<◌, ◌≤◌, Bool, true, false, Option, Some, None, List, [], ◌∷◌, ◌++◌, length, get_or, set, take, append_assoc, arith}
+use Rattle.std.proofs.Common.{◌≡◌, ◌∙◌, sym, refl, ap, subst, ℕ, zero, suc, ◌+◌, ◌-◌, ◌*◌, ◌^◌, ◌<◌, ◌≤◌, Bool, true, false, Option, Some, None, List, [], ◌∷◌, ◌++◌, length, get_or, set, take, append_assoc, arith}
 use Rattle.std.specs.Prelude.{IfSome, IfNone}
 use Rattle.std.specs.Option.{option_to_list}
 use Rattle.std.specs.List.{AllByRecursion}
@@ -7,8 +7,9 @@ use Rattle.std.proofs.lemmas.List.{append-nil, length-append}
 use Rattle.model.specs.Aspects.{Block}
 use Rattle.model.specs.Steps.{Touch}
 use Rattle.touches.specs.declared.touched.Touched.{Touched}
+use Rattle.touches.specs.declared.touched.Touched.TheVariants.{One, Blocks}
 use Rattle.touches.specs.Expanded.{expanded, touches_of, touches_of_blocks}
-use Rattle.touches.proofs.Runs.{block_touch, blocks_more, blocks_append}
+use Rattle.touches.proofs.Runs.{block_touch, blocks_more, blocks_append, length-blocks}
 use Rattle.records.specs.Runs.{GoesOnBy, HaveTouches}
 use Rattle.records.proofs.Keeping.{expanded_push}
 
@@ -117,3 +118,28 @@ pub cut_is : (f a n gone : ℕ) (v : Bool) → gone ≤ n → touches_of_blocks 
 cut_is f a n gone v le =
     let e : (n - gone) + gone ≡ n = omega arith in
     ap (λ m. touches_of_blocks f a m v) (sym e) ∙ sym (blocks_append f a (n - gone) gone v)
+
+-- each entry has few touches, so that all can be counted
+entry_short : (t : Touched) → length (touches_of t) ≤ 2 ^ 32
+entry_short (One t) = omega arith
+entry_short (Blocks r) = let e : length (touches_of (Blocks r)) ≡ r.count = length-blocks r.file r.first r.count r.write in let i : r.first + r.count ≤ 2 ^ 32 = r.in_range in omega arith
+
+pub expanded_short : (xs : List Touched) → length (expanded xs) ≤ length xs * 2 ^ 32
+expanded_short [] = omega arith
+expanded_short (x ∷ xs) =
+    let a : length (touches_of x) ≤ 2 ^ 32 = entry_short x in
+    let b : length (expanded xs) ≤ length xs * 2 ^ 32 = expanded_short xs in
+    let e : length (expanded (x ∷ xs)) ≡ length (touches_of x) + length (expanded xs) = length-append (touches_of x) (expanded xs) in
+    let n : length (x ∷ xs) ≡ length xs + 1 = omega arith in
+    omega arith
+
+-- the number of touches behind a push
+pub counted : (xs ys : List Touched) (t : Touched) (n k : ℕ) → expanded ys ≡ expanded xs ++ touches_of t → n ≡ length (expanded xs) → k ≡ length (touches_of t) → n + k ≡ length (expanded ys)
+counted xs ys t n k e is more = let l : length (expanded ys) ≡ length (expanded xs) + length (touches_of t) = ap length e ∙ length-append (expanded xs) (touches_of t) in omega arith
+
+-- and behind a pop
+pub uncounted : (xs ys : List Touched) (t : Touched) (n k : ℕ) → expanded xs ≡ expanded ys ++ touches_of t → n ≡ length (expanded xs) → k ≡ length (touches_of t) → n - k ≡ length (expanded ys)
+uncounted xs ys t n k e is less = let l : length (expanded xs) ≡ length (expanded ys) + length (touches_of t) = ap length e ∙ length-append (expanded ys) (touches_of t) in omega arith
+
+pub fits_count : (ys : List Touched) (n len cap : ℕ) → n ≡ length (expanded ys) → len ≡ length ys → len ≤ cap → cap < 2 ^ 63 → n < 2 ^ 128
+fits_count ys n len cap is long le small = let s : length (expanded ys) ≤ length ys * 2 ^ 32 = expanded_short ys in omega arith

@@ -178,7 +178,7 @@ fn split_row(
 /// A row starts at a block. Refused memory changes nothing.
 fn insert_row(rows: &mut Rows, file: Num, start: u32, row: Row) -> Result<(), AllocError>
     ensures ok { OnOk result (Puts (places_of rows.old) (places_of rows.new) file start
-        (Some row.entry.holdings.items)) }
+        (Some row.holdings.items)) }
     ensures err { OnErr result (SamePlaces (places_of rows.old) (places_of rows.new)) }
 {
     rows.insert((file, start), row)?;
