@@ -1,0 +1,5 @@
+mod Apart
+mod Forms
+mod Growing
+pub mod Laws
+mod Running
