@@ -29,8 +29,8 @@ same_records (r ∷ rs) (q ∷ qs) p o h =
 
 pub stores_are_told_apart : StoresAreToldApart
 stores_are_told_apart setup other payloads told others p q =
-    let same : setup_bytes setup ∷ map entries_bytes p.records ≡ setup_bytes other ∷ map entries_bytes q.records = sym p.payloads ∙ q.payloads in
+    let same : setup_bytes setup ∷ map entries_bytes p.records ≡ setup_bytes other ∷ map entries_bytes q.records = sym p.bytes ∙ q.bytes in
     let records = same_records p.records q.records p.each q.each (tails (setup_bytes setup) (setup_bytes other) (map entries_bytes p.records) (map entries_bytes q.records) same) in (
-      one_setup setup other p.setup q.setup (heads (setup_bytes setup) (setup_bytes other) (map entries_bytes p.records) (map entries_bytes q.records) same),
-      p.told ∙ ap (λ (rs : List (List Entry)). flat_map told_of rs) records ∙ sym q.told,
+      one_setup setup other p.is_setup q.is_setup (heads (setup_bytes setup) (setup_bytes other) (map entries_bytes p.records) (map entries_bytes q.records) same),
+      p.tell ∙ ap (λ (rs : List (List Entry)). flat_map told_of rs) records ∙ sym q.tell,
     )

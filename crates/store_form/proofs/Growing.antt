@@ -65,7 +65,7 @@ are_records : (rs : List (List Item)) (ess : List (List Entry)) → Tell rs ess 
 are_records [] [] h p q = tt
 are_records [] (es ∷ ess) h p q = absurd h
 are_records (r ∷ rs) [] h p q = absurd h
-are_records (r ∷ rs) (es ∷ ess) h p q = (record { changes = of_changes r es h.0 p.0; fits = q.0 }, are_records rs ess h.1 p.1 q.1)
+are_records (r ∷ rs) (es ∷ ess) h p q = (record { each = of_changes r es h.0 p.0; fits = q.0 }, are_records rs ess h.1 p.1 q.1)
 
 told_same : (rs : List (List Item)) (ess : List (List Entry)) → Tell rs ess → flat_map told_of ess ≡ told_records rs
 told_same [] [] h = refl
@@ -77,13 +77,13 @@ told_same (r ∷ rs) (es ∷ ess) h =
     ∙ sym (map-append told_item r (all_of rs))
 
 pub stores_grow : StoresGrow
-stores_grow setup payloads told rs ess store changed tell fit = record {
-  setup = store.setup;
+stores_grow setup payloads told rs ess store changed tells fit = record {
+  is_setup = store.is_setup;
   records = store.records ++ ess;
-  each = all_of_both IsRecord store.records ess store.each (are_records rs ess tell changed fit);
-  payloads = ap (λ (ps : List (List ℕ)). ps ++ map entries_bytes ess) store.payloads
+  each = all_of_both IsRecord store.records ess store.each (are_records rs ess tells changed fit);
+  bytes = ap (λ (ps : List (List ℕ)). ps ++ map entries_bytes ess) store.bytes
       ∙ ap (λ (ps : List (List ℕ)). setup_bytes setup ∷ ps) (sym (map-append entries_bytes store.records ess));
-  told = ap (λ (ts : List Told). ts ++ told_records rs) store.told
-      ∙ ap (λ (ts : List Told). flat_map told_of store.records ++ ts) (sym (told_same rs ess tell))
+  tell = ap (λ (ts : List Told). ts ++ told_records rs) store.tell
+      ∙ ap (λ (ts : List Told). flat_map told_of store.records ++ ts) (sym (told_same rs ess tells))
       ∙ sym (flat_map-append told_of store.records ess);
 }

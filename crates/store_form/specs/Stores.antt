@@ -33,16 +33,16 @@ IsOfChange e =
 
 -- a redo record: entries of such calls, with each number in its range
 pub record IsRecord (es : List Entry) : Type 0 where
-  pub changes : AllByRecursion IsOfChange es
+  pub each : AllByRecursion IsOfChange es
   pub fits : AreEntries es
 
 -- These payloads are a store of this setup, whose records tell these calls, one behind the other.
 pub record IsStore (setup : Setup) (payloads : List (List ℕ)) (told : List Told) : Type 0 where
-  pub setup : IsSetup setup
+  pub is_setup : IsSetup setup
   pub records : List (List Entry)
   pub each : AllByRecursion IsRecord records
-  pub payloads : payloads ≡ setup_bytes setup ∷ map entries_bytes records
-  pub told : told ≡ flat_map told_of records
+  pub bytes : payloads ≡ setup_bytes setup ∷ map entries_bytes records
+  pub tell : told ≡ flat_map told_of records
 
 -- A kernel of this setup comes to this state by these calls, each by its process and answered so,
 -- whatever numbers are chosen for new objects.

@@ -93,9 +93,13 @@ fn counted_priorities_of(
     let mut priorities = Vec::new(heap);
     let mut rest = bytes;
     for _ in 0..count {
-        let (priority, after) = priority_of(rest)?;
-        priorities.push(priority)?;
-        rest = after;
+        match priority_of(rest) {
+            Ok((priority, after)) => {
+                priorities.push(priority)?;
+                rest = after;
+            }
+            Err(e) => return Err(e),
+        }
     }
     Ok((priorities, rest))
 }

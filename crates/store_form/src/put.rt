@@ -3,7 +3,7 @@ ghost use Rattle.std.specs.Prelude.{◌≡◌, ◌++◌, ◌∷◌, [], ◌<◌,
 ghost use Rattle.std.specs.List.{AllByRecursion};
 ghost use Rattle.ids.specs.declared.limits.TheConstants.{LARGEST_FILE, MAX_PROCESSES};
 ghost use Rattle.entry_codec.specs.Parts.{u32_bytes};
-ghost use Rattle.store_form.specs.Setups.{bounds_bytes, body_bytes, priorities_bytes};
+ghost use Rattle.store_form.specs.Setups.{bounds_bytes, body_bytes, priorities_bytes, priority_bytes};
 ghost use Rattle.store_form.specs.Setups.{setup_bytes, AreBounds, IsSetup};
 
 use heap::Heap;
@@ -31,6 +31,14 @@ fn put_bounds(out: &mut Vec<u8, Heap>, bounds: Bounds) -> Result<(), AllocError>
     Ok(())
 }
 
+fn put_level(out: &mut Vec<u8, Heap>, priority: Priority) -> Result<(), AllocError>
+    ensures put { OnOk result (out.new.items ≡ out.old.items ++ priority_bytes priority) }
+    ensures fits { OnOk result (priority < 8) }
+{
+    out.push(priority.level())?;
+    Ok(())
+}
+
 fn put_priorities(out: &mut Vec<u8, Heap>, priorities: &[Priority]) -> Result<(), AllocError>
     requires { length priorities.now ≤ MAX_PROCESSES }
     ensures put { OnOk result (out.new.items ≡ out.old.items ++ priorities_bytes priorities.now) }
@@ -38,7 +46,7 @@ fn put_priorities(out: &mut Vec<u8, Heap>, priorities: &[Priority]) -> Result<()
 {
     put_u32(out, priorities.len() as u32)?;
     for priority in priorities {
-        out.push(priority.level())?;
+        put_level(out, *priority)?;
     }
     Ok(())
 }

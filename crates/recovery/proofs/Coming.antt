@@ -1,0 +1,155 @@
+-- Calls that are made again, one behind the other.
+use Rattle.std.proofs.Common.{◌≡◌, ℕ, ◌+◌, ◌==◌, Bool, true, false, not, List, [], ◌∷◌, ◌++◌, Ok, cond, refl, sym, ap, subst, ◌∙◌, append_assoc, append-nil, map, map-append}
+use Rattle.std.specs.Prelude.{if◌then◌else◌}
+use Rattle.std.specs.List.{flat_map, AllByRecursion}
+use Rattle.std.proofs.lemmas.Grind.{flat_map-append}
+use Rattle.history.specs.Log.{Log}
+use Rattle.machine.specs.Shown.{Shown, Kept, limit_of, setup_of}
+use Rattle.machine.specs.Steps.{entry_of, forgetting, Added, IsStep}
+use Rattle.model.specs.State.{Kernel}
+use Rattle.model.specs.Calls.{Call, Answer}
+use Rattle.model.specs.Steps.{Item}
+use Rattle.model.specs.Entries.{Op, Do, Cause, Reply, Answers, Entry}
+use Rattle.model.specs.Forgetting.{Limit}
+use Rattle.model.specs.Moments.{Setup, Status, gone, idle, Moment, status, is_alive, is_in, after, next, next_phase, own_next, run_by, doom, doom_cause, dooming_touches}
+use Rattle.model.specs.Legal.{items, Legal}
+use Rattle.model.specs.Suits.{suits}
+use Rattle.history_laws.proofs.Laws.{after_one_more}
+use Rattle.redo_records.specs.Changing.{only_looks, changes, changing}
+use Rattle.redo_records.specs.Kept.{items_in}
+use Rattle.redo_records.specs.Records.{added, as_record, records, all_of}
+use Rattle.redo_records.proofs.Laws.{legal_entries_suit, records_grow}
+use Rattle.store_form.specs.Laws.{told_records}
+use Rattle.store_form.specs.Stores.{Told, told_item, told_of, IsOfChange, RunsTo}
+use Rattle.store_form.proofs.Laws.{records_run_to_the_state}
+use Rattle.recovery.specs.Coming.{Answered, Comes, IsTold, Tells}
+
+-- a process that was answered, and is in no transaction, is idle
+idle_if : (b : Bool) (s : Status) (op : Op) (a : Answer) → s ≡ idle → suits (if b then s else gone) op (Answers a) ≡ true → (if b then s else gone) ≡ idle
+idle_if true s op a h p = h
+idle_if false s op a h p = absurd cc
+
+-- an answered call leaves a process idle
+abbrev moved : Bool → Bool → ℕ → Call → Answer → List ℕ → Cause → Status → Status
+moved own dooms place call a chosen cause s =
+    let kept = if own then own_next place s (Do call) (Answers a) chosen else s in
+    if dooms then doom kept cause else kept
+
+stays_idle : (own dooms : Bool) (place : ℕ) (call : Call) (a : Answer) (chosen : List ℕ) (cause : Cause) → moved own dooms place call a chosen cause idle ≡ idle
+stays_idle true true place call a chosen cause = refl
+stays_idle true false place call a chosen cause = refl
+stays_idle false true place call a chosen cause = refl
+stays_idle false false place call a chosen cause = refl
+
+told_more : (rs : List (List Item)) (it : Item) → told_records (rs ++ (it ∷ []) ∷ []) ≡ told_records rs ++ told_item it ∷ []
+told_more rs it =
+    ap (λ (xs : List Item). map told_item xs) (flat_map-append (λ (r : List Item). r) rs ((it ∷ []) ∷ []))
+    ∙ map-append told_item (all_of rs) (it ∷ [])
+
+-- an entry of an answered call that can have changed something
+module _ (setup : Setup) (limit : Limit) (es : List Entry) (pid : ℕ) (call : Call) (a : Answer) (chosen dooms : List ℕ) where
+  abbrev e : Entry
+  e = entry_of pid (Do call) (Answers a) chosen dooms
+
+  abbrev m : Moment
+  m = after 0 setup es
+
+  abbrev it : Item
+  it = record { pid = pid; call = call; answer = Ok a; chosen = chosen }
+
+  is_idle : ((q : ℕ) → m.phase q ≡ idle) → Legal 0 setup limit (es ++ e ∷ []) → status m pid ≡ idle
+  is_idle idles legal = idle_if (is_alive m.committed pid) (m.phase pid) (Do call) a (idles pid) (legal_entries_suit 0 setup limit es e legal)
+
+  adds : only_looks call ≡ false → status m pid ≡ idle → added m e ≡ it ∷ []
+  adds changed is =
+      ap (λ (s : Status). changing (items pid (run_by s (Do call) (Answers a) chosen))) is
+      ∙ ap (λ (b : Bool). cond (not b) (it ∷ []) []) changed
+
+  told_then : only_looks call ≡ false → status m pid ≡ idle → told_records (records 0 setup (es ++ e ∷ [])) ≡ told_records (records 0 setup es) ++ told_item it ∷ []
+  told_then changed is =
+      ap told_records (records_grow 0 setup es e)
+      ∙ ap (λ (xs : List Item). told_records (records 0 setup es ++ as_record xs)) (adds changed is)
+      ∙ told_more (records 0 setup es) it
+
+  idle_then : ((q : ℕ) → m.phase q ≡ idle) → (q : ℕ) → (after 0 setup (es ++ e ∷ [])).phase q ≡ idle
+  idle_then idles q =
+      let cause = doom_cause m pid (dooming_touches m pid (Do call)) q in
+      ap (λ (x : Moment). x.phase q) (after_one_more 0 setup es e)
+      ∙ ap (moved (q == pid) (is_in q dooms) (m.entries + 1) call a chosen cause) (idles q)
+      ∙ stays_idle (q == pid) (is_in q dooms) (m.entries + 1) call a chosen cause
+
+-- one call more
+pub comes_more : (setup : Setup) (old new : Log) (told : List Told) (pid : ℕ) (call : Call) (a : Answer) (limit : Limit) → only_looks call ≡ false
+    → Legal 0 (setup_of new) limit new.entries → Added old new pid (Do call) (Answers a) → Comes setup old told
+    → Comes setup new (told ++ record { pid = pid; call = call; answer = Ok a } ∷ [])
+comes_more setup old new told pid call a limit changed legal added comes =
+    let es : List Entry = old.entries in
+    let more : List Entry = es ++ entry_of pid (Do call) (Answers a) added.chosen added.doomed ∷ [] in
+    let grown : new.entries ≡ more = ap (λ (log : Log). log.entries) added.is in
+    let of_setup : setup_of new ≡ setup = ap setup_of added.is ∙ comes.of_setup in
+    let right : Legal 0 setup limit more = subst (λ (s : Setup). Legal 0 s limit more) of_setup (subst (λ (fs : List Entry). Legal 0 (setup_of new) limit fs) grown legal) in
+    let was_idle : status (after 0 setup es) pid ≡ idle = is_idle setup limit es pid call a added.chosen added.doomed comes.idles right in
+    record {
+      of_setup = of_setup;
+      idles = λ q. ap (λ (fs : List Entry). (after 0 setup fs).phase q) grown ∙ idle_then setup limit es pid call a added.chosen added.doomed comes.idles q;
+      tells = ap (λ (fs : List Entry). told_records (records 0 setup fs)) grown
+          ∙ told_then setup limit es pid call a added.chosen added.doomed changed was_idle
+          ∙ ap (λ (ts : List Told). ts ++ record { pid = pid; call = call; answer = Ok a } ∷ []) comes.tells;
+    }
+
+pub answered : (old new : Shown) (pid : ℕ) (call : Call) (reply : Reply) → only_looks call ≡ false → Kept new → IsStep old new pid (Do call) reply → Answered old.log new.log pid call reply
+answered old new pid call reply changed kept step a is setup told comes =
+    let said : IsStep old new pid (Do call) (Answers a) = subst (λ (r : Reply). IsStep old new pid (Do call) r) is step in
+    comes_more setup old.log new.log told pid call a (limit_of new.log) changed kept.legal said.entry comes
+
+-- ---- what is forgotten
+
+pub after_forgetting : (old mid : Shown) (forgot : Bool) (setup : Setup) (told : List Told) → (forgot ≡ true → mid ≡ forgetting old) → (forgot ≡ false → mid ≡ old)
+    → Comes setup old.log told → Comes setup mid.log told
+after_forgetting old mid true setup told yes no comes =
+    subst (λ (v : Shown). Comes setup v.log told) (sym (yes refl)) (record { of_setup = comes.of_setup; idles = comes.idles; tells = comes.tells })
+after_forgetting old mid false setup told yes no comes = subst (λ (v : Shown). Comes setup v.log told) (sym (no refl)) comes
+
+-- ---- in a row
+
+pub tells_none : (log : Log) → Tells log log []
+tells_none log setup told comes = subst (Comes setup log) (sym (append-nil told)) comes
+
+pub tells_both : (a b c : Log) (xs ys : List Told) → Tells a b xs → Tells b c ys → Tells a c (xs ++ ys)
+tells_both a b c xs ys p q setup told comes = subst (Comes setup c) (append_assoc told xs ys) (q setup (told ++ xs) (p setup told comes))
+
+pub told_of_both : (xs ys : List Entry) → told_of (xs ++ ys) ≡ told_of xs ++ told_of ys
+told_of_both xs ys =
+    ap (λ (its : List Item). map told_item its) (flat_map-append items_in xs ys) ∙ map-append told_item (flat_map items_in xs) (flat_map items_in ys)
+
+-- what the entry of an answered call tells
+module _ (entry : Entry) (call : Call) (a : Answer) (is_op : entry.op ≡ Do call) (is_reply : entry.reply ≡ Answers a) where
+  abbrev item : Item
+  item = record { pid = entry.pid; call = call; answer = Ok a; chosen = entry.chosen }
+
+  is_item : items_in entry ≡ item ∷ []
+  is_item =
+      ap (λ (op : Op). items entry.pid (run_by idle op entry.reply entry.chosen)) is_op
+      ∙ ap (λ (reply : Reply). items entry.pid (run_by idle (Do call) reply entry.chosen)) is_reply
+
+  pub told_one : told_of (entry ∷ []) ≡ told_item item ∷ []
+  told_one = ap (λ (its : List Item). map told_item (its ++ [])) is_item
+
+  pub is_change : only_looks call ≡ false → IsOfChange entry
+  is_change changed = (item, is_item, ap (λ (b : Bool). not b) changed)
+
+-- ---- what it runs to
+
+pub runs_to : (setup : Setup) (v : Shown) (told : List Told) → Kept v → Comes setup v.log told → RunsTo setup told v.state
+runs_to setup v told kept comes =
+    let legal : Legal 0 setup (limit_of v.log) v.log.entries = subst (λ (s : Setup). Legal 0 s (limit_of v.log) v.log.entries) comes.of_setup kept.legal in
+    let is_state : v.state ≡ (after 0 setup v.log.entries).committed = kept.state ∙ ap (λ (s : Setup). (after 0 s v.log.entries).committed) comes.of_setup in
+    subst (λ (k : Kernel). RunsTo setup told k) (sym is_state)
+    (subst (λ (ts : List Told). RunsTo setup ts (after 0 setup v.log.entries).committed) comes.tells (records_run_to_the_state setup (limit_of v.log) v.log.entries legal))
+
+pub begins : (setup : Setup) (log : Log) (limit : ℕ)
+    → log ≡ record { entries = []; priorities = setup.priorities; limit = limit; forgotten = []; bounds = setup.bounds } → Comes setup log []
+begins setup log limit is =
+    let fresh : Log = record { entries = []; priorities = setup.priorities; limit = limit; forgotten = []; bounds = setup.bounds } in
+    let comes : Comes setup fresh [] = record { of_setup = refl; idles = λ q. refl; tells = refl } in
+    subst (λ (l : Log). Comes setup l []) (sym is) comes

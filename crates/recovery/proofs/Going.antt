@@ -1,0 +1,100 @@
+-- A replay that goes on, record by record.
+use Rattle.std.proofs.Common.{◌≡◌, ℕ, List, [], ◌∷◌, ◌++◌, refl, sym, ap, subst, ◌∙◌, append_assoc, append-nil, map}
+use Rattle.std.specs.List.{flat_map, AllByRecursion}
+use Rattle.std.proofs.lemmas.List.{map-append}
+use Rattle.std.proofs.lemmas.Grind.{flat_map-append}
+use Rattle.history.specs.Log.{Log as History}
+use Rattle.machine.specs.Shown.{Shown, Kept}
+use Rattle.model.specs.Entries.{Entry}
+use Rattle.model.specs.Moments.{Setup}
+use Rattle.sqlite_disk.specs.declared.Disk.{Ghosts}
+use Rattle.commit_log.specs.declared.reader.Reader.{Reader}
+use Rattle.commit_log.specs.Reader.{disk_of, payload_of, IsAt}
+use Rattle.commit_log.specs.Reads.{IsClean, OnlyReads}
+use Rattle.entry_codec.specs.Entries.{entries_bytes}
+use Rattle.store_form.specs.Setups.{setup_bytes, IsSetup}
+use Rattle.store_form.specs.Stores.{Told, told_of, IsRecord, IsStore}
+use Rattle.recovery.specs.Coming.{Comes, Tells}
+use Rattle.recovery.specs.Going.{BeginsBy, Ends, Goes, IsBegun, IsReplayed}
+use Rattle.recovery.proofs.Coming.{runs_to}
+
+all_of_both : {X : Type 0} (P : X → Type 0) (xs ys : List X) → AllByRecursion P xs → AllByRecursion P ys → AllByRecursion P (xs ++ ys)
+all_of_both P [] ys p q = q
+all_of_both P (x ∷ xs) ys p q = (p.0, all_of_both P xs ys p.1 q)
+
+-- a store of the setup alone
+store_begins : (setup : Setup) → IsSetup setup → IsStore setup (setup_bytes setup ∷ []) []
+store_begins setup is = record { is_setup = is; records = []; each = tt; bytes = refl; tell = refl }
+
+-- one record more
+store_more : (setup : Setup) (payloads : List (List ℕ)) (told : List Told) (es : List Entry) (payload : List ℕ) → IsStore setup payloads told → IsRecord es → payload ≡ entries_bytes es
+    → IsStore setup (payloads ++ payload ∷ []) (told ++ told_of es)
+store_more setup payloads told es payload store is same = record {
+  is_setup = store.is_setup;
+  records = store.records ++ es ∷ [];
+  each = all_of_both IsRecord store.records (es ∷ []) store.each (is, tt);
+  bytes = ap (λ (ps : List (List ℕ)). ps ++ payload ∷ []) store.bytes
+      ∙ ap (λ (p : List ℕ). (setup_bytes setup ∷ map entries_bytes store.records) ++ p ∷ []) same
+      ∙ ap (λ (ps : List (List ℕ)). setup_bytes setup ∷ ps) (sym (map-append entries_bytes store.records (es ∷ [])));
+  tell = ap (λ (ts : List Told). ts ++ told_of es) store.tell
+      ∙ ap (λ (ts : List Told). flat_map told_of store.records ++ ts) (sym (append-nil (told_of es)))
+      ∙ sym (flat_map-append told_of store.records (es ∷ []));
+}
+
+module _ {D : Type 0} (g : Ghosts D) where
+  pub reads_both : (a b c : D) → OnlyReads g a b → OnlyReads g b c → OnlyReads g a c
+  reads_both a b c p q = record {
+    seen = q.seen ∙ p.seen;
+    clean = λ h. p.clean (q.clean h);
+    usable = q.usable;
+    crash = λ file h. p.crash file (q.crash file h);
+  }
+
+  pub goes_begun : (reader : Reader D g) (log : History) (setup : Setup) (payloads : List (List ℕ)) → IsSetup setup → IsBegun g reader setup payloads → Comes setup log [] → Goes g reader log payloads
+  goes_begun reader log setup payloads is begun comes = record {
+    setup = setup;
+    read = setup_bytes setup ∷ [];
+    rest = begun.later;
+    told = [];
+    whole = begun.whole;
+    is_at = begun.is_at;
+    store = store_begins setup is;
+    comes = comes;
+  }
+
+  -- one record more was read, and made again
+  pub goes_on : (old new : Reader D g) (before after : History) (payloads later : List (List ℕ)) (es : List Entry) (goes : Goes g old before payloads)
+      → goes.rest ≡ payload_of new ∷ later → IsAt new (goes.read ++ payload_of new ∷ []) later → IsRecord es → payload_of new ≡ entries_bytes es → Tells before after (told_of es)
+      → Goes g new after payloads
+  goes_on old new before after payloads later es goes is_rest is_at is same tells = record {
+    setup = goes.setup;
+    read = goes.read ++ payload_of new ∷ [];
+    rest = later;
+    told = goes.told ++ told_of es;
+    whole = goes.whole ∙ ap (λ (ps : List (List ℕ)). goes.read ++ ps) is_rest ∙ sym (append_assoc goes.read (payload_of new ∷ []) later);
+    is_at = is_at;
+    store = store_more goes.setup goes.read goes.told es (payload_of new) goes.store is same;
+    comes = tells goes.setup goes.told goes.comes;
+  }
+
+  -- none was left
+  pub goes_ends : (old new : Reader D g) (log : History) (payloads : List (List ℕ)) (goes : Goes g old log payloads) → goes.rest ≡ [] → IsAt new goes.read [] → Ends g new log payloads
+  goes_ends old new log payloads goes none is_at =
+      let all : goes.read ≡ payloads = sym (goes.whole ∙ ap (λ (ps : List (List ℕ)). goes.read ++ ps) none ∙ append-nil goes.read) in
+      record {
+        setup = goes.setup;
+        told = goes.told;
+        is_at = subst (λ (ps : List (List ℕ)). IsAt new ps []) all is_at;
+        store = subst (λ (ps : List (List ℕ)). IsStore goes.setup ps goes.told) all goes.store;
+        comes = goes.comes;
+      }
+
+  pub replayed_by : (reader : Reader D g) (v : Shown) (payloads : List (List ℕ)) → Kept v → Ends g reader v.log payloads → IsReplayed g reader v payloads
+  replayed_by reader v payloads kept ends = record {
+    setup = ends.setup;
+    told = ends.told;
+    is_at = ends.is_at;
+    store = ends.store;
+    comes = ends.comes;
+    runs = runs_to ends.setup v ends.told kept ends.comes;
+  }

@@ -1,0 +1,3 @@
+mod Coming
+mod Going
+pub mod Laws

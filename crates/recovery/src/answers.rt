@@ -1,0 +1,54 @@
+// Whether a call is answered as it was told.
+ghost use Rattle.std.specs.Prelude.{◌≡◌, Decides};
+ghost use Rattle.redo_records.specs.Changing.{only_looks};
+
+use ids::{Answer, Call, Name};
+
+fn are_same_names(names: &[Name], others: &[Name]) -> bool
+    ensures { Decides result (names.now ≡ others.now) }
+{
+    let [name, rest @ ..] = names else {
+        return others.is_empty();
+    };
+    let [other, more @ ..] = others else {
+        return false;
+    };
+    name.as_slice() == other.as_slice() && are_same_names(rest, more)
+}
+
+pub(crate) fn are_same_answers(answer: &Answer, other: &Answer) -> bool
+    ensures { Decides result (answer.now ≡ other.now) }
+{
+    match (answer, other) {
+        (Answer::Done, Answer::Done) => true,
+        (Answer::Fd(fd), Answer::Fd(same)) => fd == same,
+        (Answer::Count(count), Answer::Count(same)) => count == same,
+        (Answer::Place(offset), Answer::Place(same)) => offset == same,
+        (Answer::Bytes(bytes), Answer::Bytes(same)) => bytes.as_slice() == same.as_slice(),
+        (Answer::Pair(reader, writer), Answer::Pair(same, too)) => {
+            reader == same && writer == too
+        }
+        (Answer::Stat(stat), Answer::Stat(same)) => stat == same,
+        (Answer::Names(names), Answer::Names(same)) => are_same_names(
+            names.as_slice(),
+            same.as_slice(),
+        ),
+        (Answer::Child(child), Answer::Child(same)) => child == same,
+        _ => false,
+    }
+}
+
+// Whether a call only looks; a store has none of these.
+pub(crate) fn only_looks(call: &Call) -> bool
+    ensures { result ≡ only_looks call.now }
+{
+    match call {
+        Call::Pread(_, _, _) => true,
+        Call::Stat(_) => true,
+        Call::Fstat(_) => true,
+        Call::List(_) => true,
+        Call::Readlink(_) => true,
+        Call::Lstat(_) => true,
+        _ => false,
+    }
+}

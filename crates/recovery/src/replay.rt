@@ -1,0 +1,110 @@
+// The records of a log, replayed.
+ghost use Rattle.std.specs.Prelude.{◌≡◌, ◌≤◌, [], List, ℕ, IfOk, MatchBool, OnOk};
+ghost use Rattle.ids.specs.declared.limits.TheConstants.{MAX_ENTRIES};
+ghost use Rattle.machine.specs.Shown.{Kept};
+ghost use Rattle.commit_log.specs.Reader.{disk_of, IsAt};
+ghost use Rattle.commit_log.specs.Reads.{IsClean, OnlyReads};
+ghost use Rattle.recovery.specs.Going.{Ends, Goes, IsReplayed};
+
+use crate::again::record_again;
+use crate::descriptors::above_all;
+use crate::error::Error;
+use crate::start::start;
+use commit_log::Reader;
+use heap::Heap;
+use machine::Machine;
+use sqlite_disk::Disk;
+
+/// A kernel that has made all calls of a store again.
+#[derive(Drop)]
+pub struct Replayed<M: Machine> {
+    /// The kernel. No process is in a transaction.
+    pub machine: M,
+    /// A number above each descriptor that was ever told.
+    pub descriptors: u32,
+}
+
+// Replays the next record, if there is one. It tells whether there was.
+fn replay_next<M: Machine, D: Disk>(
+    heap: Heap,
+    reader: &mut Reader<D>,
+    machine: &mut M,
+    descriptors: &mut u32,
+) -> Result<bool, Error>
+    requires kept { Kept (M.shown machine.old) }
+    ensures kept { Kept (M.shown machine.new) }
+    ensures goes { IfOk result (λ more. IsClean D.Disk (disk_of reader.new)
+        → (payloads : List (List ℕ)) → Goes D.Disk reader.old (M.shown machine.old).log payloads
+        → MatchBool more (Goes D.Disk reader.new (M.shown machine.new).log payloads)
+        (Ends D.Disk reader.new (M.shown machine.new).log payloads)) }
+    ensures same { OnlyReads D.Disk (disk_of reader.old) (disk_of reader.new) }
+{
+    let place = match reader.next() {
+        Ok(Some(place)) => place,
+        Ok(None) => return Ok(false),
+        Err(e) => return Err(Error::Log(e)),
+    };
+    match record_again(heap, machine, reader.payload()) {
+        Ok(entries) => {
+            *descriptors = above_all(*descriptors, entries.as_slice());
+            Ok(true)
+        }
+        Err(stop) => Err(stop.at(place)),
+    }
+}
+
+// Replays all records that are left.
+fn replay_rest<M: Machine, D: Disk>(
+    heap: Heap,
+    reader: &mut Reader<D>,
+    machine: &mut M,
+    descriptors: &mut u32,
+) -> Result<(), Error>
+    requires kept { Kept (M.shown machine.old) }
+    ensures kept { Kept (M.shown machine.new) }
+    ensures ends { OnOk result (IsClean D.Disk (disk_of reader.new)
+        → (payloads : List (List ℕ)) → Goes D.Disk reader.old (M.shown machine.old).log payloads
+        → Ends D.Disk reader.new (M.shown machine.new).log payloads) }
+    ensures same { OnlyReads D.Disk (disk_of reader.old) (disk_of reader.new) }
+{
+    for _ in 0..u64::MAX {
+        if !replay_next(heap, reader, machine, descriptors)? {
+            return Ok(());
+        }
+    }
+    Err(Error::Log(commit_log::Error::TooLong))
+}
+
+/// Reads all records of a log from the front, and has a fresh kernel, whose history keeps at most so
+/// many entries, make their calls again: each by its process, as a plain call. Each has to be answered
+/// as it was told. The reader stands behind the last record then; `Reader::finish` makes the log ready
+/// for further ones.
+///
+/// The file is only read, whatever the result is. `Log`: it is not read as a log. `NoSetup`, `Setup`:
+/// its first record is missing, or is no setup. `Unread`, `NotAChange`: the record at this place is no
+/// redo record. `Otherwise`: a call of the record at this place is answered otherwise. `HistoryFull`:
+/// there is no place for its calls. `NoMemory`: memory was refused. After an error the reader is no
+/// longer at the front, and the log is opened anew.
+pub fn replay<M: Machine, D: Disk>(
+    heap: Heap,
+    reader: &mut Reader<D>,
+    entries: usize,
+) -> Result<Replayed<M>, Error>
+    requires limited { entries ≤ MAX_ENTRIES }
+    ensures kept { IfOk result (λ r. Kept (M.shown r.machine)) }
+    // What the payloads tell is what the kernel's history has committed, and runs to its state.
+    ensures replayed { IfOk result (λ r. IsClean D.Disk (disk_of reader.new)
+        → (payloads : List (List ℕ)) → IsAt reader.old [] payloads
+        → IsReplayed D.Disk reader.new (M.shown r.machine) payloads) }
+    ensures same { OnlyReads D.Disk (disk_of reader.old) (disk_of reader.new) }
+{
+    let mut machine = start(heap, reader, entries)?;
+    let mut descriptors = 0;
+    match replay_rest(heap, reader, &mut machine, &mut descriptors) {
+        Ok(()) => Ok(Replayed {
+            machine,
+            descriptors,
+        }),
+        Err(e) => Err(e),
+    }
+}
