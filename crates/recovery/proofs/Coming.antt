@@ -1,15 +1,16 @@
 -- Calls that are made again, one behind the other.
-use Rattle.std.proofs.Common.{◌≡◌, ℕ, ◌+◌, ◌==◌, Bool, true, false, not, List, [], ◌∷◌, ◌++◌, Ok, cond, refl, sym, ap, subst, ◌∙◌, append_assoc, append-nil, map, map-append}
-use Rattle.std.specs.Prelude.{if◌then◌else◌}
+use Rattle.std.proofs.Common.{◌≡◌, ℕ, ◌+◌, ◌==◌, ◌<◌, ◌≤◌, length, get_or, take, Bool, true, false, not, List, [], ◌∷◌, ◌++◌, Result, Ok, Err, cond, refl, sym, ap, subst, ◌∙◌, append_assoc, append-nil, map, map-append}
+use Rattle.std.specs.Prelude.{if◌then◌else◌, IfOk}
 use Rattle.std.specs.List.{flat_map, AllByRecursion}
 use Rattle.std.proofs.lemmas.Grind.{flat_map-append}
+use Rattle.std.proofs.lemmas.List.{take_more, take_all}
 use Rattle.history.specs.Log.{Log}
 use Rattle.machine.specs.Shown.{Shown, Kept, limit_of, setup_of}
 use Rattle.machine.specs.Steps.{entry_of, forgetting, Added, IsStep}
 use Rattle.model.specs.State.{Kernel}
 use Rattle.model.specs.Calls.{Call, Answer}
 use Rattle.model.specs.Steps.{Item}
-use Rattle.model.specs.Entries.{Op, Do, Cause, Reply, Answers, Entry}
+use Rattle.model.specs.Entries.{Op, Do, Cause, Reply, Answers, HistoryFull, Entry}
 use Rattle.model.specs.Forgetting.{Limit}
 use Rattle.model.specs.Moments.{Setup, Status, gone, idle, Moment, status, is_alive, is_in, after, next, next_phase, own_next, run_by, doom, doom_cause, dooming_touches}
 use Rattle.model.specs.Legal.{items, Legal}
@@ -22,7 +23,7 @@ use Rattle.redo_records.proofs.Laws.{legal_entries_suit, records_grow}
 use Rattle.store_form.specs.Laws.{told_records}
 use Rattle.store_form.specs.Stores.{Told, told_item, told_of, IsOfChange, RunsTo}
 use Rattle.store_form.proofs.Laws.{records_run_to_the_state}
-use Rattle.recovery.specs.Coming.{Answered, Comes, IsTold, Tells}
+use Rattle.recovery.specs.Coming.{Answered, Comes, IsTold, Stays, Tells}
 
 -- a process that was answered, and is in no transaction, is idle
 idle_if : (b : Bool) (s : Status) (op : Op) (a : Answer) → s ≡ idle → suits (if b then s else gone) op (Answers a) ≡ true → (if b then s else gone) ≡ idle
@@ -104,11 +105,20 @@ answered old new pid call reply changed kept step a is setup told comes =
 
 -- ---- what is forgotten
 
-pub after_forgetting : (old mid : Shown) (forgot : Bool) (setup : Setup) (told : List Told) → (forgot ≡ true → mid ≡ forgetting old) → (forgot ≡ false → mid ≡ old)
-    → Comes setup old.log told → Comes setup mid.log told
-after_forgetting old mid true setup told yes no comes =
+pub after_forgetting : (old mid : Shown) (forgot : Bool) → (forgot ≡ true → mid ≡ forgetting old) → (forgot ≡ false → mid ≡ old) → Stays old.log mid.log
+after_forgetting old mid true yes no setup told comes =
     subst (λ (v : Shown). Comes setup v.log told) (sym (yes refl)) (record { of_setup = comes.of_setup; idles = comes.idles; tells = comes.tells })
-after_forgetting old mid false setup told yes no comes = subst (λ (v : Shown). Comes setup v.log told) (sym (no refl)) comes
+after_forgetting old mid false yes no setup told comes = subst (λ (v : Shown). Comes setup v.log told) (sym (no refl)) comes
+
+-- nothing changes where the history is full
+pub stays_full : (old new : Shown) (pid : ℕ) (op : Op) (reply : Reply) → IsStep old new pid op reply → reply ≡ HistoryFull → Stays old.log new.log
+stays_full old new pid op reply step is setup told comes =
+    let said : IsStep old new pid op HistoryFull = subst (λ (r : Reply). IsStep old new pid op r) is step in
+    subst (λ (v : Shown). Comes setup v.log told) (sym said.entry) comes
+
+-- and then a call is answered
+pub answered_then : (a b c d : Log) (pid : ℕ) (call : Call) (reply : Reply) → Stays a b → Stays b c → Answered c d pid call reply → Answered a d pid call reply
+answered_then a b c d pid call reply p q r answer is setup told comes = r answer is setup told (q setup told (p setup told comes))
 
 -- ---- in a row
 
@@ -135,8 +145,21 @@ module _ (entry : Entry) (call : Call) (a : Answer) (is_op : entry.op ≡ Do cal
   pub told_one : told_of (entry ∷ []) ≡ told_item item ∷ []
   told_one = ap (λ (its : List Item). map told_item (its ++ [])) is_item
 
+  pub tells_one : (old new : Log) → IsTold old new entry.pid call a → Tells old new (told_of (entry ∷ []))
+  tells_one old new p = subst (Tells old new) (sym told_one) p
+
   pub is_change : only_looks call ≡ false → IsOfChange entry
   is_change changed = (item, is_item, ap (λ (b : Bool). not b) changed)
+
+-- ---- the entries of a loop
+
+pub tells_upto : (a b c : Log) (es : List Entry) (i : ℕ) (entry : Entry) → i < length es → entry ≡ get_or es i entry → Tells a b (told_of (take i es)) → Tells b c (told_of (entry ∷ [])) → Tells a c (told_of (take (i + 1) es))
+tells_upto a b c es i entry lt is p q =
+    let grown : take (i + 1) es ≡ take i es ++ entry ∷ [] = take_more es i entry lt ∙ ap (λ (x : Entry). take i es ++ x ∷ []) (sym is) in
+    subst (Tells a c) (sym (ap told_of grown ∙ told_of_both (take i es) (entry ∷ []))) (tells_both a b c (told_of (take i es)) (told_of (entry ∷ [])) p q)
+
+pub tells_all : (a c : Log) (es : List Entry) (i : ℕ) → length es ≤ i → Tells a c (told_of (take i es)) → Tells a c (told_of es)
+tells_all a c es i le p = subst (λ (xs : List Entry). Tells a c (told_of xs)) (take_all i es le) p
 
 -- ---- what it runs to
 
@@ -153,3 +176,9 @@ begins setup log limit is =
     let fresh : Log = record { entries = []; priorities = setup.priorities; limit = limit; forgotten = []; bounds = setup.bounds } in
     let comes : Comes setup fresh [] = record { of_setup = refl; idles = λ q. refl; tells = refl } in
     subst (λ (l : Log). Comes setup l []) (sym is) comes
+
+pub begins_if : {M E : Type 0} (shown : M → Shown) (setup : Setup) (limit : ℕ) (made : Result M E)
+    → IfOk made (λ m. (shown m).log ≡ record { entries = []; priorities = setup.priorities; limit = limit; forgotten = []; bounds = setup.bounds })
+    → IfOk made (λ m. Comes setup (shown m).log [])
+begins_if shown setup limit (Ok m) is = begins setup (shown m).log limit is
+begins_if shown setup limit (Err e) is = tt

@@ -1,5 +1,6 @@
 -- A replay that goes on, record by record.
-use Rattle.std.proofs.Common.{◌≡◌, ℕ, List, [], ◌∷◌, ◌++◌, refl, sym, ap, subst, ◌∙◌, append_assoc, append-nil, map}
+use Rattle.std.proofs.Common.{◌≡◌, ℕ, List, [], ◌∷◌, ◌++◌, Option, Some, None, Bool, true, false, refl, sym, ap, subst, ◌∙◌, append_assoc, append-nil, map}
+use Rattle.std.specs.Prelude.{IsTrue, MatchBool, MatchOption}
 use Rattle.std.specs.List.{flat_map, AllByRecursion}
 use Rattle.std.proofs.lemmas.List.{map-append}
 use Rattle.std.proofs.lemmas.Grind.{flat_map-append}
@@ -50,6 +51,25 @@ module _ {D : Type 0} (g : Ghosts D) where
     crash = λ file h. p.crash file (q.crash file h);
   }
 
+  pub reads_same : (a : D) → IsTrue (g.is_usable a) → OnlyReads g a a
+  reads_same a usable = record { seen = refl; clean = λ h. h; usable = usable; crash = λ file h. h }
+
+  -- what holds up to a record, and then of it, holds behind it
+  pub goes_then : (a b c : Reader D g) (before mid after : History) (more : Bool)
+      → OnlyReads g (disk_of b) (disk_of c)
+      → (IsClean g (disk_of b) → (payloads : List (List ℕ)) → Goes g a before payloads → Goes g b mid payloads)
+      → (IsClean g (disk_of c) → (payloads : List (List ℕ)) → Goes g b mid payloads → MatchBool more (Goes g c after payloads) (Ends g c after payloads))
+      → IsClean g (disk_of c) → (payloads : List (List ℕ)) → Goes g a before payloads → MatchBool more (Goes g c after payloads) (Ends g c after payloads)
+  goes_then a b c before mid after more same p q clean payloads goes = q clean payloads (p (same.clean clean) payloads goes)
+
+  pub goes_more : (c : Reader D g) (after : History) (payloads : List (List ℕ)) (more : Bool) → more ≡ true → MatchBool more (Goes g c after payloads) (Ends g c after payloads) → Goes g c after payloads
+  goes_more c after payloads true is goes = goes
+  goes_more c after payloads false is ends = absurd cc
+
+  pub goes_no_more : (c : Reader D g) (after : History) (payloads : List (List ℕ)) (more : Bool) → more ≡ false → MatchBool more (Goes g c after payloads) (Ends g c after payloads) → Ends g c after payloads
+  goes_no_more c after payloads true is goes = absurd cc
+  goes_no_more c after payloads false is ends = ends
+
   pub goes_begun : (reader : Reader D g) (log : History) (setup : Setup) (payloads : List (List ℕ)) → IsSetup setup → IsBegun g reader setup payloads → Comes setup log [] → Goes g reader log payloads
   goes_begun reader log setup payloads is begun comes = record {
     setup = setup;
@@ -77,6 +97,32 @@ module _ {D : Type 0} (g : Ghosts D) where
     comes = tells goes.setup goes.told goes.comes;
   }
 
+  -- what the next record of a reader is
+  abbrev NextReads : Reader D g → Reader D g → Option ℕ → Type 0
+  NextReads old new found =
+      IsClean g (disk_of new) → (before rest : List (List ℕ)) → IsAt old before rest
+      → MatchOption found ((rest ≡ []) × IsAt new before [])
+      (λ place. (later : List (List ℕ)) × (rest ≡ payload_of new ∷ later) × IsAt new (before ++ payload_of new ∷ []) later)
+
+  pub setup_next : (old new : Reader D g) (found : Option ℕ) (place : ℕ) (setup : Setup) → found ≡ Some place → NextReads old new found → IsSetup setup → payload_of new ≡ setup_bytes setup
+      → BeginsBy g old new setup
+  setup_next old new found place setup is reads is_setup same = record {
+    is_setup = is_setup;
+    begins = λ clean payloads is_at.
+      let next = (subst (λ (o : Option ℕ). NextReads old new o) is reads) clean [] payloads is_at in
+      record {
+        later = next.0;
+        whole = next.1 ∙ ap (λ (p : List ℕ). p ∷ next.0) same;
+        is_at = subst (λ (p : List ℕ). IsAt new (p ∷ []) next.0) same next.2;
+      };
+  }
+
+  pub record_next : (old new : Reader D g) (before after : History) (found : Option ℕ) (place : ℕ) (es : List Entry) → found ≡ Some place → NextReads old new found
+      → IsRecord es → payload_of new ≡ entries_bytes es → Tells before after (told_of es) → IsClean g (disk_of new) → (payloads : List (List ℕ)) → Goes g old before payloads → Goes g new after payloads
+  record_next old new before after found place es is reads record_is same tells clean payloads goes =
+      let next = (subst (λ (o : Option ℕ). NextReads old new o) is reads) clean goes.read goes.rest goes.is_at in
+      goes_on old new before after payloads next.0 es goes next.1 next.2 record_is same tells
+
   -- none was left
   pub goes_ends : (old new : Reader D g) (log : History) (payloads : List (List ℕ)) (goes : Goes g old log payloads) → goes.rest ≡ [] → IsAt new goes.read [] → Ends g new log payloads
   goes_ends old new log payloads goes none is_at =
@@ -88,6 +134,11 @@ module _ {D : Type 0} (g : Ghosts D) where
         store = subst (λ (ps : List (List ℕ)). IsStore goes.setup ps goes.told) all goes.store;
         comes = goes.comes;
       }
+
+  pub none_next : (old new : Reader D g) (log : History) (found : Option ℕ) → found ≡ None → NextReads old new found → IsClean g (disk_of new) → (payloads : List (List ℕ)) → Goes g old log payloads → Ends g new log payloads
+  none_next old new log found is reads clean payloads goes =
+      let next = (subst (λ (o : Option ℕ). NextReads old new o) is reads) clean goes.read goes.rest goes.is_at in
+      goes_ends old new log payloads goes next.0 next.1
 
   pub replayed_by : (reader : Reader D g) (v : Shown) (payloads : List (List ℕ)) → Kept v → Ends g reader v.log payloads → IsReplayed g reader v payloads
   replayed_by reader v payloads kept ends = record {

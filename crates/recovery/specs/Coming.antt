@@ -20,6 +20,10 @@ abbrev pub Tells : Log → Log → List Told → Type 0
 Tells old new more =
     (setup : Setup) (told : List Told) → Comes setup old told → Comes setup new (told ++ more)
 
+-- whatever one history comes to, the other one comes to
+abbrev pub Stays : Log → Log → Type 0
+Stays old new = (setup : Setup) (told : List Told) → Comes setup old told → Comes setup new told
+
 -- one call more, with this answer
 abbrev pub IsTold : Log → Log → ℕ → Call → Answer → Type 0
 IsTold old new pid call answer =

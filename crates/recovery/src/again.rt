@@ -6,9 +6,9 @@ ghost use Rattle.machine.specs.Shown.{Kept};
 ghost use Rattle.entry_codec.specs.Entries.{entries_bytes};
 ghost use Rattle.redo_records.specs.Changing.{only_looks};
 ghost use Rattle.store_form.specs.Stores.{told_of, IsOfChange, IsRecord};
-ghost use Rattle.recovery.specs.Coming.{Answered, IsTold, Tells};
+ghost use Rattle.recovery.specs.Coming.{Answered, IsTold, Stays, Tells};
 
-use crate::answers::{are_same_answers, only_looks};
+use crate::answers::{is_told, only_looks, stop_by};
 use crate::error::Stop;
 use entry_codec::read_entries;
 use heap::Heap;
@@ -24,13 +24,23 @@ fn make_once<M: Machine>(machine: &mut M, pid: Pid, call: &Call) -> Result<Reply
     ensures answered { IfOk result (λ reply.
         Answered (M.shown machine.old).log (M.shown machine.new).log pid call.now reply) }
     ensures full { IfOk result (λ reply. reply ≡ HistoryFull
-        → M.shown machine.new ≡ M.shown machine.old) }
+        → Stays (M.shown machine.old).log (M.shown machine.new).log) }
 {
     let call = call.try_clone()?;
     Ok(machine.step(pid, Op::Call(call)))
 }
 
-// The same; where its place is not free the history is forgotten first.
+// Gives the places of the history back. Where nothing can be forgotten the history stays full, which is
+// told at the next call.
+fn make_place<M: Machine>(machine: &mut M)
+    requires { Kept (M.shown machine.old) }
+    ensures kept { Kept (M.shown machine.new) }
+    ensures stays { Stays (M.shown machine.old).log (M.shown machine.new).log }
+{
+    machine.forget();
+}
+
+// Makes a call that changes something; where its place is not free the history is forgotten first.
 fn make_call<M: Machine>(machine: &mut M, pid: Pid, call: &Call) -> Result<Reply, AllocError>
     requires kept { Kept (M.shown machine.old) }
     requires changing { only_looks call.now ≡ false }
@@ -38,13 +48,15 @@ fn make_call<M: Machine>(machine: &mut M, pid: Pid, call: &Call) -> Result<Reply
     ensures answered { IfOk result (λ reply.
         Answered (M.shown machine.old).log (M.shown machine.new).log pid call.now reply) }
 {
-    match make_once(machine, pid, call)? {
+    let first = make_once(machine, pid, call)?;
+    match &first {
         Reply::HistoryFull => {}
-        reply => return Ok(reply),
+        _ => return Ok(first),
     }
-    // Where it answers false the history stays full, which is told.
-    machine.forget();
-    make_once(machine, pid, call)
+    drop(first);
+    make_place(machine);
+    let second = make_once(machine, pid, call)?;
+    Ok(second)
 }
 
 // Makes a call again that has this answer told.
@@ -54,45 +66,44 @@ fn call_again<M: Machine>(
     call: &Call,
     told: &Answer,
 ) -> Result<(), Stop>
-    requires kept { Kept (M.shown machine.old) }
+    requires { Kept (M.shown machine.old) }
     ensures kept { Kept (M.shown machine.new) }
-    ensures ok { OnOk result (IsTold
+    ensures told { OnOk result (IsTold
         (M.shown machine.old).log (M.shown machine.new).log pid call.now told.now) }
+    ensures changing { OnOk result (only_looks call.now ≡ false) }
 {
     if only_looks(call) {
         return Err(Stop::NotAChange);
     }
     let reply = make_call(machine, pid, call)?;
-    match &reply {
-        Reply::Answer(answer) => {
-            if are_same_answers(answer, told) {
-                return Ok(());
-            }
-            Err(Stop::Otherwise)
-        }
-        Reply::HistoryFull => Err(Stop::HistoryFull),
-        Reply::NoMemory => Err(Stop::NoMemory),
-        _ => Err(Stop::Otherwise),
+    if is_told(&reply, told) {
+        Ok(())
+    } else {
+        Err(stop_by(&reply))
     }
 }
 
 // Makes the call of an entry again. One that is of no executed call is none of a store.
 fn entry_again<M: Machine>(machine: &mut M, entry: &Entry) -> Result<(), Stop>
-    requires kept { Kept (M.shown machine.old) }
+    requires { Kept (M.shown machine.old) }
     ensures kept { Kept (M.shown machine.new) }
     ensures tells { OnOk result (Tells
         (M.shown machine.old).log (M.shown machine.new).log (told_of (entry.now ∷ []))) }
     ensures is { OnOk result (IsOfChange entry.now) }
 {
-    match (&entry.op, &entry.reply) {
-        (Op::Call(call), Reply::Answer(told)) => call_again(machine, entry.pid, call, told),
-        _ => Err(Stop::NotAChange),
-    }
+    let Op::Call(call) = &entry.op else {
+        return Err(Stop::NotAChange);
+    };
+    let Reply::Answer(told) = &entry.reply else {
+        return Err(Stop::NotAChange);
+    };
+    call_again(machine, entry.pid, call, told)?;
+    Ok(())
 }
 
 // Makes the calls of these entries again, one after the other.
 fn entries_again<M: Machine>(machine: &mut M, entries: &[Entry]) -> Result<(), Stop>
-    requires kept { Kept (M.shown machine.old) }
+    requires { Kept (M.shown machine.old) }
     ensures kept { Kept (M.shown machine.new) }
     ensures tells { OnOk result (Tells
         (M.shown machine.old).log (M.shown machine.new).log (told_of entries.now)) }
@@ -110,7 +121,7 @@ pub(crate) fn record_again<M: Machine>(
     machine: &mut M,
     payload: &[u8],
 ) -> Result<Vec<Entry, Heap>, Stop>
-    requires kept { Kept (M.shown machine.old) }
+    requires { Kept (M.shown machine.old) }
     ensures kept { Kept (M.shown machine.new) }
     ensures tells { IfOk result (λ v. Tells
         (M.shown machine.old).log (M.shown machine.new).log (told_of v.items)) }

@@ -1,8 +1,10 @@
 // Whether a call is answered as it was told.
 ghost use Rattle.std.specs.Prelude.{◌≡◌, Decides};
+ghost use Rattle.model.specs.Entries.{Answers};
 ghost use Rattle.redo_records.specs.Changing.{only_looks};
 
-use ids::{Answer, Call, Name};
+use crate::error::Stop;
+use ids::{Answer, Call, Name, Reply};
 
 fn are_same_names(names: &[Name], others: &[Name]) -> bool
     ensures { Decides result (names.now ≡ others.now) }
@@ -16,7 +18,7 @@ fn are_same_names(names: &[Name], others: &[Name]) -> bool
     name.as_slice() == other.as_slice() && are_same_names(rest, more)
 }
 
-pub(crate) fn are_same_answers(answer: &Answer, other: &Answer) -> bool
+fn are_same_answers(answer: &Answer, other: &Answer) -> bool
     ensures { Decides result (answer.now ≡ other.now) }
 {
     match (answer, other) {
@@ -35,6 +37,24 @@ pub(crate) fn are_same_answers(answer: &Answer, other: &Answer) -> bool
         ),
         (Answer::Child(child), Answer::Child(same)) => child == same,
         _ => false,
+    }
+}
+
+pub(crate) fn is_told(reply: &Reply, told: &Answer) -> bool
+    ensures { Decides result (reply.now ≡ Answers told.now) }
+{
+    match reply {
+        Reply::Answer(answer) => are_same_answers(answer, told),
+        _ => false,
+    }
+}
+
+// Why a record stops at a reply that is not what was told.
+pub(crate) fn stop_by(reply: &Reply) -> Stop {
+    match reply {
+        Reply::HistoryFull => Stop::HistoryFull,
+        Reply::NoMemory => Stop::NoMemory,
+        _ => Stop::Otherwise,
     }
 }
 

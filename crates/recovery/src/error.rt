@@ -36,6 +36,14 @@ pub enum Error {
     HistoryFull(usize),
 }
 
+impl From<commit_log::Error> for Error {
+    ghost from_gives = { λ e error. error ≡ Error.Log e };
+
+    fn from(e: commit_log::Error) -> Error {
+        Error::Log(e)
+    }
+}
+
 // Why a record is not replayed.
 #[derive(Clone, Copy, Debug, PartialEq, Eq)]
 pub(crate) enum Stop {

@@ -31,7 +31,7 @@ fn replay_next<M: Machine, D: Disk>(
     machine: &mut M,
     descriptors: &mut u32,
 ) -> Result<bool, Error>
-    requires kept { Kept (M.shown machine.old) }
+    requires { Kept (M.shown machine.old) }
     ensures kept { Kept (M.shown machine.new) }
     ensures goes { IfOk result (λ more. IsClean D.Disk (disk_of reader.new)
         → (payloads : List (List ℕ)) → Goes D.Disk reader.old (M.shown machine.old).log payloads
@@ -39,10 +39,10 @@ fn replay_next<M: Machine, D: Disk>(
         (Ends D.Disk reader.new (M.shown machine.new).log payloads)) }
     ensures same { OnlyReads D.Disk (disk_of reader.old) (disk_of reader.new) }
 {
-    let place = match reader.next() {
-        Ok(Some(place)) => place,
-        Ok(None) => return Ok(false),
-        Err(e) => return Err(Error::Log(e)),
+    let found = reader.next()?;
+    let place = match found {
+        None => return Ok(false),
+        Some(place) => place,
     };
     match record_again(heap, machine, reader.payload()) {
         Ok(entries) => {
@@ -60,7 +60,7 @@ fn replay_rest<M: Machine, D: Disk>(
     machine: &mut M,
     descriptors: &mut u32,
 ) -> Result<(), Error>
-    requires kept { Kept (M.shown machine.old) }
+    requires { Kept (M.shown machine.old) }
     ensures kept { Kept (M.shown machine.new) }
     ensures ends { OnOk result (IsClean D.Disk (disk_of reader.new)
         → (payloads : List (List ℕ)) → Goes D.Disk reader.old (M.shown machine.old).log payloads
@@ -68,7 +68,8 @@ fn replay_rest<M: Machine, D: Disk>(
     ensures same { OnlyReads D.Disk (disk_of reader.old) (disk_of reader.new) }
 {
     for _ in 0..u64::MAX {
-        if !replay_next(heap, reader, machine, descriptors)? {
+        let more = replay_next(heap, reader, machine, descriptors)?;
+        if !more {
             return Ok(());
         }
     }
@@ -90,7 +91,7 @@ pub fn replay<M: Machine, D: Disk>(
     reader: &mut Reader<D>,
     entries: usize,
 ) -> Result<Replayed<M>, Error>
-    requires limited { entries ≤ MAX_ENTRIES }
+    requires { entries ≤ MAX_ENTRIES }
     ensures kept { IfOk result (λ r. Kept (M.shown r.machine)) }
     // What the payloads tell is what the kernel's history has committed, and runs to its state.
     ensures replayed { IfOk result (λ r. IsClean D.Disk (disk_of reader.new)

@@ -23,13 +23,14 @@ fn setup_in<D: Disk>(heap: Heap, reader: &mut Reader<D>) -> Result<Setup, Error>
     ensures begins { IfOk result (λ s. BeginsBy D.Disk reader.old reader.new (setup_of s)) }
     ensures same { OnlyReads D.Disk (disk_of reader.old) (disk_of reader.new) }
 {
-    match reader.next() {
-        Ok(Some(_)) => match read_setup(heap, reader.payload()) {
-            Ok(setup) => Ok(setup),
-            Err(e) => Err(Error::Setup(e)),
-        },
-        Ok(None) => Err(Error::NoSetup),
-        Err(e) => Err(Error::Log(e)),
+    let found = reader.next()?;
+    match found {
+        None => return Err(Error::NoSetup),
+        Some(_) => {}
+    }
+    match read_setup(heap, reader.payload()) {
+        Ok(setup) => Ok(setup),
+        Err(e) => Err(Error::Setup(e)),
     }
 }
 
@@ -55,7 +56,7 @@ pub(crate) fn start<M: Machine, D: Disk>(
     reader: &mut Reader<D>,
     entries: usize,
 ) -> Result<M, Error>
-    requires limited { entries ≤ MAX_ENTRIES }
+    requires { entries ≤ MAX_ENTRIES }
     ensures kept { IfOk result (λ m. Kept (M.shown m)) }
     ensures goes { IfOk result (λ m. IsClean D.Disk (disk_of reader.new)
         → (payloads : List (List ℕ)) → IsAt reader.old [] payloads

@@ -1,0 +1,6 @@
+use Rattle.store_form.specs.ReadingSetups.{setup_of}
+use Rattle.recovery.proofs.Coming.{begins_if}
+use Rattle.recovery.proofs.start.kernel_of.Goals as goal
+
+pub returns-clause-comes : goal.returns-clause-comes
+returns-clause-comes g c = begins_if (g.M.Machine.shown) (setup_of c.args.setup.now) c.args.entries c.with_limits.result c.with_limits.ensures.log
