@@ -2,16 +2,14 @@
 use Rattle.std.specs.Prelude.{◌≡◌, ℕ, List, [], ◌∷◌, ◌++◌}
 use Rattle.history.specs.Log.{Log as History}
 use Rattle.machine.specs.Shown.{Shown}
-use Rattle.model.specs.Moments.{Setup, idle, after}
+use Rattle.model.specs.Moments.{Setup}
 use Rattle.sqlite_disk.specs.declared.Disk.{Ghosts}
 use Rattle.commit_log.specs.declared.log.Log.{Log}
 use Rattle.commit_log.specs.declared.reader.Reader.{Reader}
 use Rattle.commit_log.specs.File.{HasHeader, Reads}
 use Rattle.commit_log.specs.Log.{disk_of as log_disk, Stands}
-use Rattle.commit_log.specs.Reader.{disk_of, key_of, IsAt}
+use Rattle.commit_log.specs.Reader.{disk_of, IsAt}
 use Rattle.commit_log.specs.Reads.{IsClean, OnlyReads}
-use Rattle.redo_records.specs.Records.{records}
-use Rattle.store_form.specs.Laws.{told_records}
 use Rattle.store_form.specs.Setups.{setup_bytes, IsSetup}
 use Rattle.store_form.specs.Stores.{Told, IsStore, RunsTo}
 use Rattle.recovery.specs.Coming.{Comes}
@@ -63,13 +61,14 @@ pub record IsReplayed {D : Type 0} (g : Ghosts D) (reader : Reader D g) (shown :
   pub runs : RunsTo setup told shown.state
 
 -- A disk was read whole by a reader, the kernel has come to what its payloads tell, and the log has
--- all of them.
+-- all of them. The key is that of the file's digests, as its header has it.
 pub record IsReopened {D : Type 0} (g : Ghosts D) (disk : D) (shown : Shown) (log : Log D g)
     : Type 0 where
+  pub key : ℕ
   pub reader : Reader D g
   pub same : OnlyReads g disk (disk_of reader)
-  pub header : IsClean g (disk_of reader) → HasHeader (key_of reader) (g.seen disk)
+  pub header : IsClean g (disk_of reader) → HasHeader key (g.seen disk)
   pub replayed : IsClean g (disk_of reader) → (payloads : List (List ℕ))
-      → Reads (key_of reader) (g.seen disk) payloads → IsReplayed g reader shown payloads
+      → Reads key (g.seen disk) payloads → IsReplayed g reader shown payloads
   pub stands : IsClean g (log_disk log) → (payloads : List (List ℕ)) → IsAt reader payloads []
       → Stands log payloads []
