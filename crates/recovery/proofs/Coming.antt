@@ -4,6 +4,7 @@ use Rattle.std.specs.Prelude.{if◌then◌else◌, IfOk}
 use Rattle.std.specs.List.{flat_map, AllByRecursion}
 use Rattle.std.proofs.lemmas.Grind.{flat_map-append}
 use Rattle.std.proofs.lemmas.List.{take_more, take_all}
+use Rattle.std.specs.declared.alloc.AllocError.{AllocError}
 use Rattle.history.specs.Log.{Log}
 use Rattle.machine.specs.Shown.{Shown, Kept, limit_of, setup_of}
 use Rattle.machine.specs.Steps.{entry_of, forgetting, Added, IsStep}
@@ -117,8 +118,9 @@ stays_full old new pid op reply step is setup told comes =
     subst (λ (v : Shown). Comes setup v.log told) (sym said.entry) comes
 
 -- and then a call is answered
-pub answered_then : (a b c d : Log) (pid : ℕ) (call : Call) (reply : Reply) → Stays a b → Stays b c → Answered c d pid call reply → Answered a d pid call reply
-answered_then a b c d pid call reply p q r answer is setup told comes = r answer is setup told (q setup told (p setup told comes))
+pub answered_later : (a b c : Log) (pid : ℕ) (call : Call) (made : Result Reply AllocError) → Stays a b → IfOk made (λ reply. Answered b c pid call reply) → IfOk made (λ reply. Answered a c pid call reply)
+answered_later a b c pid call (Ok reply) p q answer is setup told comes = q answer is setup told (p setup told comes)
+answered_later a b c pid call (Err e) p q = tt
 
 -- ---- in a row
 

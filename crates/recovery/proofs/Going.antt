@@ -15,8 +15,8 @@ use Rattle.commit_log.specs.Reads.{IsClean, OnlyReads}
 use Rattle.entry_codec.specs.Entries.{entries_bytes}
 use Rattle.store_form.specs.Setups.{setup_bytes, IsSetup}
 use Rattle.store_form.specs.Stores.{Told, told_of, IsRecord, IsStore}
-use Rattle.recovery.specs.Coming.{Comes, Tells}
-use Rattle.recovery.specs.Going.{BeginsBy, Ends, Goes, IsBegun, IsReplayed}
+use Rattle.recovery.specs.Coming.{Comes, IsMadeAgain, Tells}
+use Rattle.recovery.specs.Going.{BeginsBy, Ends, Goes, IsBegun, IsFirst, IsReplayed}
 use Rattle.recovery.proofs.Coming.{runs_to}
 
 all_of_both : {X : Type 0} (P : X → Type 0) (xs ys : List X) → AllByRecursion P xs → AllByRecursion P ys → AllByRecursion P (xs ++ ys)
@@ -104,12 +104,14 @@ module _ {D : Type 0} (g : Ghosts D) where
       → MatchOption found ((rest ≡ []) × IsAt new before [])
       (λ place. (later : List (List ℕ)) × (rest ≡ payload_of new ∷ later) × IsAt new (before ++ payload_of new ∷ []) later)
 
-  pub setup_next : (old new : Reader D g) (found : Option ℕ) (place : ℕ) (setup : Setup) → found ≡ Some place → NextReads old new found → IsSetup setup → payload_of new ≡ setup_bytes setup
-      → BeginsBy g old new setup
-  setup_next old new found place setup is reads is_setup same = record {
+  pub is_first : (old new : Reader D g) (found : Option ℕ) (place : ℕ) → found ≡ Some place → NextReads old new found → IsFirst g old new
+  is_first old new found place is reads clean payloads is_at = (subst (λ (o : Option ℕ). NextReads old new o) is reads) clean [] payloads is_at
+
+  pub setup_next : (old new : Reader D g) (setup : Setup) → IsFirst g old new → IsSetup setup → payload_of new ≡ setup_bytes setup → BeginsBy g old new setup
+  setup_next old new setup first is_setup same = record {
     is_setup = is_setup;
     begins = λ clean payloads is_at.
-      let next = (subst (λ (o : Option ℕ). NextReads old new o) is reads) clean [] payloads is_at in
+      let next = first clean payloads is_at in
       record {
         later = next.0;
         whole = next.1 ∙ ap (λ (p : List ℕ). p ∷ next.0) same;
@@ -117,11 +119,11 @@ module _ {D : Type 0} (g : Ghosts D) where
       };
   }
 
-  pub record_next : (old new : Reader D g) (before after : History) (found : Option ℕ) (place : ℕ) (es : List Entry) → found ≡ Some place → NextReads old new found
-      → IsRecord es → payload_of new ≡ entries_bytes es → Tells before after (told_of es) → IsClean g (disk_of new) → (payloads : List (List ℕ)) → Goes g old before payloads → Goes g new after payloads
-  record_next old new before after found place es is reads record_is same tells clean payloads goes =
+  pub record_next : (old new : Reader D g) (before after : History) (found : Option ℕ) (place : ℕ) → found ≡ Some place → NextReads old new found
+      → IsMadeAgain before after (payload_of new) → IsClean g (disk_of new) → (payloads : List (List ℕ)) → Goes g old before payloads → Goes g new after payloads
+  record_next old new before after found place is reads again clean payloads goes =
       let next = (subst (λ (o : Option ℕ). NextReads old new o) is reads) clean goes.read goes.rest goes.is_at in
-      goes_on old new before after payloads next.0 es goes next.1 next.2 record_is same tells
+      goes_on old new before after payloads next.0 again.0 goes next.1 next.2 again.1 again.2 again.3
 
   -- none was left
   pub goes_ends : (old new : Reader D g) (log : History) (payloads : List (List ℕ)) (goes : Goes g old log payloads) → goes.rest ≡ [] → IsAt new goes.read [] → Ends g new log payloads

@@ -3,11 +3,12 @@ use Rattle.std.specs.Prelude.{◌≡◌, ℕ, List, [], ◌∷◌, ◌++◌, Ok}
 use Rattle.history.specs.Log.{Log}
 use Rattle.machine.specs.Shown.{setup_of}
 use Rattle.model.specs.Calls.{Call, Answer}
-use Rattle.model.specs.Entries.{Reply, Answers}
+use Rattle.entry_codec.specs.Entries.{entries_bytes}
+use Rattle.model.specs.Entries.{Entry, Reply, Answers}
 use Rattle.model.specs.Moments.{Setup, idle, after}
 use Rattle.redo_records.specs.Records.{records}
 use Rattle.store_form.specs.Laws.{told_records}
-use Rattle.store_form.specs.Stores.{Told}
+use Rattle.store_form.specs.Stores.{Told, told_of, IsRecord}
 
 -- A history of this setup: its records tell these calls, and no process is in a transaction.
 pub record Comes (setup : Setup) (log : Log) (told : List Told) : Type 0 where
@@ -33,3 +34,8 @@ IsTold old new pid call answer =
 abbrev pub Answered : Log → Log → ℕ → Call → Reply → Type 0
 Answered old new pid call reply =
     (answer : Answer) → reply ≡ Answers answer → IsTold old new pid call answer
+
+-- the bytes are a record, and its calls were made
+abbrev pub IsMadeAgain : Log → Log → List ℕ → Type 0
+IsMadeAgain old new payload =
+    (es : List Entry) × IsRecord es × (payload ≡ entries_bytes es) × Tells old new (told_of es)

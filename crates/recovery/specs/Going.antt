@@ -8,7 +8,7 @@ use Rattle.commit_log.specs.declared.log.Log.{Log}
 use Rattle.commit_log.specs.declared.reader.Reader.{Reader}
 use Rattle.commit_log.specs.File.{HasHeader, Reads}
 use Rattle.commit_log.specs.Log.{disk_of as log_disk, Stands}
-use Rattle.commit_log.specs.Reader.{disk_of, IsAt}
+use Rattle.commit_log.specs.Reader.{disk_of, payload_of, IsAt}
 use Rattle.commit_log.specs.Reads.{IsClean, OnlyReads}
 use Rattle.store_form.specs.Setups.{setup_bytes, IsSetup}
 use Rattle.store_form.specs.Stores.{Told, IsStore, RunsTo}
@@ -20,6 +20,12 @@ pub record IsBegun {D : Type 0} (g : Ghosts D) (reader : Reader D g) (setup : Se
   pub later : List (List ℕ)
   pub whole : payloads ≡ setup_bytes setup ∷ later
   pub is_at : IsAt reader (setup_bytes setup ∷ []) later
+
+-- A reader at its first record has read one: it is the first of the payloads.
+abbrev pub IsFirst : {D : Type 0} (g : Ghosts D) → Reader D g → Reader D g → Type 0
+IsFirst g old new =
+    IsClean g (disk_of new) → (payloads : List (List ℕ)) → IsAt old [] payloads
+    → (later : List (List ℕ)) × (payloads ≡ payload_of new ∷ later) × IsAt new (payload_of new ∷ []) later
 
 -- what was read of a reader at its first record is this setup
 pub record BeginsBy {D : Type 0} (g : Ghosts D) (old new : Reader D g) (setup : Setup)

@@ -40,6 +40,18 @@ fn make_place<M: Machine>(machine: &mut M)
     machine.forget();
 }
 
+// The same, behind a history that is forgotten.
+fn make_later<M: Machine>(machine: &mut M, pid: Pid, call: &Call) -> Result<Reply, AllocError>
+    requires kept { Kept (M.shown machine.old) }
+    requires changing { only_looks call.now ≡ false }
+    ensures kept { Kept (M.shown machine.new) }
+    ensures answered { IfOk result (λ reply.
+        Answered (M.shown machine.old).log (M.shown machine.new).log pid call.now reply) }
+{
+    make_place(machine);
+    make_once(machine, pid, call)
+}
+
 // Makes a call that changes something; where its place is not free the history is forgotten first.
 fn make_call<M: Machine>(machine: &mut M, pid: Pid, call: &Call) -> Result<Reply, AllocError>
     requires kept { Kept (M.shown machine.old) }
@@ -50,13 +62,12 @@ fn make_call<M: Machine>(machine: &mut M, pid: Pid, call: &Call) -> Result<Reply
 {
     let first = make_once(machine, pid, call)?;
     match &first {
-        Reply::HistoryFull => {}
-        _ => return Ok(first),
+        Reply::HistoryFull => {
+            drop(first);
+            make_later(machine, pid, call)
+        }
+        _ => Ok(first),
     }
-    drop(first);
-    make_place(machine);
-    let second = make_once(machine, pid, call)?;
-    Ok(second)
 }
 
 // Makes a call again that has this answer told.

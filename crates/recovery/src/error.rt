@@ -36,6 +36,22 @@ pub enum Error {
     HistoryFull(usize),
 }
 
+impl From<AllocError> for Error {
+    ghost from_gives = { λ _ error. error ≡ Error.NoMemory };
+
+    fn from(_e: AllocError) -> Error {
+        Error::NoMemory
+    }
+}
+
+impl From<SetupError> for Error {
+    ghost from_gives = { λ e error. error ≡ Error.Setup e };
+
+    fn from(e: SetupError) -> Error {
+        Error::Setup(e)
+    }
+}
+
 impl From<commit_log::Error> for Error {
     ghost from_gives = { λ e error. error ≡ Error.Log e };
 

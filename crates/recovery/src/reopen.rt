@@ -1,7 +1,11 @@
 // A store that goes on.
-ghost use Rattle.std.specs.Prelude.{◌≤◌, IfOk, IsTrue};
+ghost use Rattle.std.specs.Prelude.{◌≤◌, [], List, ℕ, IfOk, IsTrue};
 ghost use Rattle.ids.specs.declared.limits.TheConstants.{MAX_ENTRIES};
 ghost use Rattle.machine.specs.Shown.{Kept};
+ghost use Rattle.commit_log.specs.File.{HasHeader, Reads};
+ghost use Rattle.commit_log.specs.Log.{disk_of as log_disk, Stands};
+ghost use Rattle.commit_log.specs.Reader.{disk_of, key_of, IsAt};
+ghost use Rattle.commit_log.specs.Reads.{IsClean, OnlyReads};
 ghost use Rattle.recovery.specs.Going.{IsReopened};
 
 use crate::error::Error;
@@ -23,6 +27,33 @@ pub struct Reopened<M: Machine, D: Disk> {
     pub descriptors: u32,
 }
 
+// The log at its first record.
+fn opened<D: Disk>(alloc: Global, disk: D) -> Result<Reader<D>, Error>
+    requires { IsTrue (D.Disk.is_usable disk) }
+    ensures reads { IfOk result (λ reader. IsClean D.Disk (disk_of reader)
+        → (payloads : List (List ℕ)) → Reads (key_of reader) (D.Disk.seen disk) payloads
+        → IsAt reader [] payloads) }
+    ensures header { IfOk result (λ reader. IsClean D.Disk (disk_of reader)
+        → HasHeader (key_of reader) (D.Disk.seen disk)) }
+    ensures same { IfOk result (λ reader. OnlyReads D.Disk disk (disk_of reader)) }
+{
+    match Reader::open(alloc, disk) {
+        Ok(reader) => Ok(reader),
+        Err(refused) => Err(Error::Log(refused.error)),
+    }
+}
+
+// The log ready for further records, behind all that were read.
+fn finished<D: Disk>(reader: Reader<D>) -> Result<Log<D>, Error>
+    ensures { IfOk result (λ log. IsClean D.Disk (log_disk log) → (payloads : List (List ℕ))
+        → IsAt reader payloads [] → Stands log payloads []) }
+{
+    match reader.finish() {
+        Ok(log) => Ok(log),
+        Err(refused) => Err(Error::Log(refused.error)),
+    }
+}
+
 /// Opens a store, has a fresh kernel make all its calls again, and makes its log ready for further
 /// records: what a crash has left of a torn one is overwritten by zeros.
 ///
@@ -39,21 +70,16 @@ pub fn reopen<M: Machine, D: Disk>(
     ensures kept { IfOk result (λ r. Kept (M.shown r.machine)) }
     ensures reopened { IfOk result (λ r. IsReopened D.Disk disk (M.shown r.machine) r.log) }
 {
-    let mut reader = match Reader::open(alloc, disk) {
-        Ok(reader) => reader,
-        Err(refused) => return Err(Error::Log(refused.error)),
-    };
+    let mut reader = opened(alloc, disk)?;
     let replayed: Replayed<M> = replay(heap, &mut reader, entries)?;
+    let log = finished(reader)?;
     let Replayed {
         machine,
         descriptors,
     } = replayed;
-    match reader.finish() {
-        Ok(log) => Ok(Reopened {
-            machine,
-            log,
-            descriptors,
-        }),
-        Err(refused) => Err(Error::Log(refused.error)),
-    }
+    Ok(Reopened {
+        machine,
+        log,
+        descriptors,
+    })
 }

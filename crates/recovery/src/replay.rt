@@ -1,10 +1,11 @@
 // The records of a log, replayed.
-ghost use Rattle.std.specs.Prelude.{◌≡◌, ◌≤◌, [], List, ℕ, IfOk, MatchBool, OnOk};
+ghost use Rattle.std.specs.Prelude.{◌≤◌, [], List, ℕ, IfOk, MatchBool, OnOk};
 ghost use Rattle.ids.specs.declared.limits.TheConstants.{MAX_ENTRIES};
 ghost use Rattle.machine.specs.Shown.{Kept};
 ghost use Rattle.commit_log.specs.Reader.{disk_of, IsAt};
 ghost use Rattle.commit_log.specs.Reads.{IsClean, OnlyReads};
 ghost use Rattle.recovery.specs.Going.{Ends, Goes, IsReplayed};
+ghost use Rattle.recovery.specs.Coming.{IsMadeAgain};
 
 use crate::again::record_again;
 use crate::descriptors::above_all;
@@ -24,6 +25,28 @@ pub struct Replayed<M: Machine> {
     pub descriptors: u32,
 }
 
+// Makes the calls of the record again that is at this byte of the file.
+fn replay_at<M: Machine>(
+    heap: Heap,
+    payload: &[u8],
+    place: usize,
+    machine: &mut M,
+    descriptors: &mut u32,
+) -> Result<(), Error>
+    requires { Kept (M.shown machine.old) }
+    ensures kept { Kept (M.shown machine.new) }
+    ensures again { OnOk result
+        (IsMadeAgain (M.shown machine.old).log (M.shown machine.new).log payload.now) }
+{
+    match record_again(heap, machine, payload) {
+        Ok(entries) => {
+            *descriptors = above_all(*descriptors, entries.as_slice());
+            Ok(())
+        }
+        Err(stop) => Err(stop.at(place)),
+    }
+}
+
 // Replays the next record, if there is one. It tells whether there was.
 fn replay_next<M: Machine, D: Disk>(
     heap: Heap,
@@ -40,16 +63,12 @@ fn replay_next<M: Machine, D: Disk>(
     ensures same { OnlyReads D.Disk (disk_of reader.old) (disk_of reader.new) }
 {
     let found = reader.next()?;
-    let place = match found {
-        None => return Ok(false),
-        Some(place) => place,
-    };
-    match record_again(heap, machine, reader.payload()) {
-        Ok(entries) => {
-            *descriptors = above_all(*descriptors, entries.as_slice());
+    match found {
+        None => Ok(false),
+        Some(place) => {
+            replay_at(heap, reader.payload(), place, machine, descriptors)?;
             Ok(true)
         }
-        Err(stop) => Err(stop.at(place)),
     }
 }
 
@@ -99,13 +118,11 @@ pub fn replay<M: Machine, D: Disk>(
         → IsReplayed D.Disk reader.new (M.shown r.machine) payloads) }
     ensures same { OnlyReads D.Disk (disk_of reader.old) (disk_of reader.new) }
 {
-    let mut machine = start(heap, reader, entries)?;
+    let mut machine: M = start(heap, reader, entries)?;
     let mut descriptors = 0;
-    match replay_rest(heap, reader, &mut machine, &mut descriptors) {
-        Ok(()) => Ok(Replayed {
-            machine,
-            descriptors,
-        }),
-        Err(e) => Err(e),
-    }
+    replay_rest(heap, reader, &mut machine, &mut descriptors)?;
+    Ok(Replayed {
+        machine,
+        descriptors,
+    })
 }

@@ -1,13 +1,13 @@
 // How the replay of a store begins.
-ghost use Rattle.std.specs.Prelude.{◌≡◌, ◌≤◌, ◌∷◌, [], List, ℕ, IfOk};
+ghost use Rattle.std.specs.Prelude.{◌≤◌, [], List, ℕ, IfOk, OnOk};
 ghost use Rattle.ids.specs.declared.limits.TheConstants.{MAX_ENTRIES};
 ghost use Rattle.machine.specs.Shown.{Kept};
 ghost use Rattle.commit_log.specs.Reader.{disk_of, IsAt};
 ghost use Rattle.commit_log.specs.Reads.{IsClean, OnlyReads};
 ghost use Rattle.store_form.specs.ReadingSetups.{setup_of};
-ghost use Rattle.store_form.specs.Setups.{setup_bytes, IsSetup};
+ghost use Rattle.store_form.specs.Setups.{IsSetup};
 ghost use Rattle.recovery.specs.Coming.{Comes};
-ghost use Rattle.recovery.specs.Going.{BeginsBy, Goes};
+ghost use Rattle.recovery.specs.Going.{BeginsBy, Goes, IsFirst};
 
 use crate::error::Error;
 use commit_log::Reader;
@@ -18,20 +18,26 @@ use sqlite_disk::Disk;
 use std::alloc::AllocError;
 use store_form::{Setup, read_setup};
 
+// The first record is the next one, and is read.
+fn first_record<D: Disk>(reader: &mut Reader<D>) -> Result<(), Error>
+    ensures first { OnOk result (IsFirst D.Disk reader.old reader.new) }
+    ensures same { OnlyReads D.Disk (disk_of reader.old) (disk_of reader.new) }
+{
+    let found = reader.next()?;
+    match found {
+        None => Err(Error::NoSetup),
+        Some(_) => Ok(()),
+    }
+}
+
 // The setup, which is the first record.
 fn setup_in<D: Disk>(heap: Heap, reader: &mut Reader<D>) -> Result<Setup, Error>
     ensures begins { IfOk result (λ s. BeginsBy D.Disk reader.old reader.new (setup_of s)) }
     ensures same { OnlyReads D.Disk (disk_of reader.old) (disk_of reader.new) }
 {
-    let found = reader.next()?;
-    match found {
-        None => return Err(Error::NoSetup),
-        Some(_) => {}
-    }
-    match read_setup(heap, reader.payload()) {
-        Ok(setup) => Ok(setup),
-        Err(e) => Err(Error::Setup(e)),
-    }
+    first_record(reader)?;
+    let setup = read_setup(heap, reader.payload())?;
+    Ok(setup)
 }
 
 // A kernel of this setup, whose history keeps so many entries.
@@ -63,11 +69,7 @@ pub(crate) fn start<M: Machine, D: Disk>(
         → Goes D.Disk reader.new (M.shown m).log payloads) }
     ensures same { OnlyReads D.Disk (disk_of reader.old) (disk_of reader.new) }
 {
-    match setup_in(heap, reader) {
-        Ok(setup) => match kernel_of(heap, &setup, entries) {
-            Ok(machine) => Ok(machine),
-            Err(_) => Err(Error::NoMemory),
-        },
-        Err(e) => Err(e),
-    }
+    let setup = setup_in(heap, reader)?;
+    let machine: M = kernel_of(heap, &setup, entries)?;
+    Ok(machine)
 }

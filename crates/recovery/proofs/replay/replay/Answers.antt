@@ -2,14 +2,13 @@ use Rattle.commit_log.specs.Reader.{disk_of}
 use Rattle.recovery.proofs.Going.{reads_both, replayed_by}
 use Rattle.recovery.proofs.replay.replay.Goals as goal
 
-pub returns-in-Ok-clause-replayed : goal.returns-in-Ok-clause-replayed
-returns-in-Ok-clause-replayed g c clean payloads is_at =
-    let old = c.replay_rest.ensures.same.clean clean in
+pub returns-clause-replayed : goal.returns-clause-replayed
+returns-clause-replayed g c clean payloads is_at =
     replayed_by g.D.Disk c.replay_rest.new.reader (g.M.Machine.shown c.replay_rest.new.machine) payloads c.replay_rest.ensures.kept
-    (c.in-Ok.ensures.ends clean payloads (c.in_ok-machine.ensures.goes old payloads is_at))
+    (c.in_ok-replay_rest.ensures.ends clean payloads (c.in_ok-machine.ensures.goes (c.replay_rest.ensures.same.clean clean) payloads is_at))
 
-pub returns-in-Ok-clause-same : goal.returns-in-Ok-clause-same
-returns-in-Ok-clause-same g c = reads_both g.D.Disk (disk_of c.args.reader.now) (disk_of c.start.new.reader) (disk_of c.replay_rest.new.reader) c.start.ensures.same c.replay_rest.ensures.same
+pub returns-clause-same : goal.returns-clause-same
+returns-clause-same g c = reads_both g.D.Disk (disk_of c.args.reader.now) (disk_of c.start.new.reader) (disk_of c.replay_rest.new.reader) c.start.ensures.same c.replay_rest.ensures.same
 
-pub returns-in-Err-clause-same : goal.returns-in-Err-clause-same
-returns-in-Err-clause-same g c = reads_both g.D.Disk (disk_of c.args.reader.now) (disk_of c.start.new.reader) (disk_of c.replay_rest.new.reader) c.start.ensures.same c.replay_rest.ensures.same
+pub returns-in_err-replay_rest-clause-same : goal.returns-in_err-replay_rest-clause-same
+returns-in_err-replay_rest-clause-same g c = reads_both g.D.Disk (disk_of c.args.reader.now) (disk_of c.start.new.reader) (disk_of c.replay_rest.new.reader) c.start.ensures.same c.replay_rest.ensures.same

@@ -1,6 +1,10 @@
+use Rattle.std.proofs.Common.{◌≡◌, ℕ, List, [], subst}
+use Rattle.std.specs.Prelude.{IfOk}
 use Rattle.store_form.specs.ReadingSetups.{setup_of}
 use Rattle.recovery.proofs.Coming.{begins_if}
 use Rattle.recovery.proofs.start.kernel_of.Goals as goal
 
 pub returns-clause-comes : goal.returns-clause-comes
-returns-clause-comes g c = begins_if (g.M.Machine.shown) (setup_of c.args.setup.now) c.args.entries c.with_limits.result c.with_limits.ensures.log
+returns-clause-comes g c =
+    begins_if g.M.Machine.shown (setup_of c.args.setup.now) c.args.entries c.with_limits.result
+    (subst (λ (ps : List ℕ). IfOk c.with_limits.result (λ m. (g.M.Machine.shown m).log ≡ record { entries = []; priorities = ps; limit = c.args.entries; forgotten = []; bounds = c.args.setup.now.bounds })) c.as_slice.ensures.value c.with_limits.ensures.log)
