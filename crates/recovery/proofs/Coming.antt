@@ -4,7 +4,6 @@ use Rattle.std.specs.Prelude.{if◌then◌else◌, IfOk}
 use Rattle.std.specs.List.{flat_map, AllByRecursion}
 use Rattle.std.proofs.lemmas.Grind.{flat_map-append}
 use Rattle.std.proofs.lemmas.List.{take_more, take_all}
-use Rattle.std.specs.declared.alloc.AllocError.{AllocError}
 use Rattle.history.specs.Log.{Log}
 use Rattle.machine.specs.Shown.{Shown, Kept, limit_of, setup_of}
 use Rattle.machine.specs.Steps.{entry_of, forgetting, Added, IsStep}
@@ -118,7 +117,7 @@ stays_full old new pid op reply step is setup told comes =
     subst (λ (v : Shown). Comes setup v.log told) (sym said.entry) comes
 
 -- and then a call is answered
-pub answered_later : (a b c : Log) (pid : ℕ) (call : Call) (made : Result Reply AllocError) → Stays a b → IfOk made (λ reply. Answered b c pid call reply) → IfOk made (λ reply. Answered a c pid call reply)
+pub answered_later : {E : Type 0} (a b c : Log) (pid : ℕ) (call : Call) (made : Result Reply E) → Stays a b → IfOk made (λ reply. Answered b c pid call reply) → IfOk made (λ reply. Answered a c pid call reply)
 answered_later a b c pid call (Ok reply) p q answer is setup told comes = q answer is setup told (p setup told comes)
 answered_later a b c pid call (Err e) p q = tt
 

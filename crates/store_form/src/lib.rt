@@ -6,8 +6,10 @@
 //! lemmas of `proofs/Laws.antt`, which have the names of these functions.
 #![tactic(auto)]
 
+ghost use Rattle.store_form.specs.Laws.{FirstRecordsRunToABeginning, RecordsRunToTheState};
+ghost use Rattle.store_form.specs.Laws.{StoresAreToldApart, StoresGrow, ToldRecordsAreChanges};
+
 mod fault;
-mod laws;
 mod parts;
 mod put;
 mod read;
@@ -15,9 +17,36 @@ mod read;
 mod tests;
 
 pub use fault::SetupError;
-pub use laws::{
-    first_records_run_to_a_beginning, records_run_to_the_state, stores_are_told_apart, stores_grow,
-    told_records_are_changes,
-};
 pub use put::put_setup;
 pub use read::{Setup, read_setup};
+
+/// The records of a legal history tell what runs from the start to its committed state.
+/// Proved in `proofs/Running.antt`.
+pub fn records_run_to_the_state()
+    ensures { RecordsRunToTheState }
+{}
+
+/// The first records of a legal history, whatever a crash has left of them, tell what runs to the state
+/// that was committed after a beginning of it.
+/// Proved in `proofs/Running.antt`.
+pub fn first_records_run_to_a_beginning()
+    ensures { FirstRecordsRunToABeginning }
+{}
+
+/// The records of a history, and the first of them, are of calls that can have changed something.
+/// Proved in `proofs/Growing.antt`.
+pub fn told_records_are_changes()
+    ensures { ToldRecordsAreChanges }
+{}
+
+/// A store with the bytes of further records behind it is a store that tells these too.
+/// Proved in `proofs/Growing.antt`.
+pub fn stores_grow()
+    ensures { StoresGrow }
+{}
+
+/// Payloads are a store of one setup at most, and tell one list of calls.
+/// Proved in `proofs/Apart.antt`.
+pub fn stores_are_told_apart()
+    ensures { StoresAreToldApart }
+{}
