@@ -28,7 +28,7 @@ pub struct Reopened<M: Machine, D: Disk> {
 }
 
 // The log at its first record.
-fn opened<D: Disk>(alloc: Global, disk: D) -> Result<Reader<D>, Error>
+fn opened<D: Disk + Drop>(alloc: Global, disk: D) -> Result<Reader<D>, Error>
     requires { IsTrue (D.Disk.is_usable disk) }
     ensures reads { IfOk result (λ reader. IsClean D.Disk (disk_of reader)
         → (payloads : List (List ℕ)) → Reads (key_of reader) (D.Disk.seen disk) payloads
@@ -44,7 +44,7 @@ fn opened<D: Disk>(alloc: Global, disk: D) -> Result<Reader<D>, Error>
 }
 
 // The log ready for further records, behind all that were read.
-fn finished<D: Disk>(reader: Reader<D>) -> Result<Log<D>, Error>
+fn finished<D: Disk + Drop>(reader: Reader<D>) -> Result<Log<D>, Error>
     ensures { IfOk result (λ log. IsClean D.Disk (log_disk log) → (payloads : List (List ℕ))
         → IsAt reader payloads [] → Stands log payloads []) }
 {
@@ -59,7 +59,7 @@ fn finished<D: Disk>(reader: Reader<D>) -> Result<Log<D>, Error>
 ///
 /// Each error is one of [`replay`], which only reads, or, as `Log`, one of `Reader::finish`: `Damaged`
 /// where what stood behind the last record was on the disk, and nothing has changed then.
-pub fn reopen<M: Machine, D: Disk>(
+pub fn reopen<M: Machine, D: Disk + Drop>(
     heap: Heap,
     alloc: Global,
     disk: D,
