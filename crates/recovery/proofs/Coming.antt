@@ -1,9 +1,9 @@
 -- Calls that are made again, one behind the other.
-use Rattle.std.proofs.Common.{◌≡◌, ℕ, ◌+◌, ◌==◌, ◌<◌, ◌≤◌, length, get_or, take, Bool, true, false, not, List, [], ◌∷◌, ◌++◌, Result, Ok, Err, cond, refl, sym, ap, subst, ◌∙◌, append_assoc, append-nil, map, map-append}
+use Rattle.std.proofs.Common.{◌≡◌, ℕ, ◌+◌, ◌==◌, ◌<◌, ◌≤◌, length, get_or, take, Bool, true, false, not, List, [], ◌∷◌, ◌++◌, Result, Ok, Err, cond, refl, sym, ap, subst, ◌∙◌, append_assoc, append-nil, map}
 use Rattle.std.specs.Prelude.{if◌then◌else◌, IfOk}
-use Rattle.std.specs.List.{flat_map, AllByRecursion}
+use Rattle.std.specs.List.{flat_map}
 use Rattle.std.proofs.lemmas.Grind.{flat_map-append}
-use Rattle.std.proofs.lemmas.List.{take_more, take_all}
+use Rattle.std.proofs.lemmas.List.{map-append, take_more, take_all}
 use Rattle.history.specs.Log.{Log}
 use Rattle.machine.specs.Shown.{Shown, Kept, limit_of, setup_of}
 use Rattle.machine.specs.Steps.{entry_of, forgetting, Added, IsStep}
@@ -12,7 +12,7 @@ use Rattle.model.specs.Calls.{Call, Answer}
 use Rattle.model.specs.Steps.{Item}
 use Rattle.model.specs.Entries.{Op, Do, Cause, Reply, Answers, HistoryFull, Entry}
 use Rattle.model.specs.Forgetting.{Limit}
-use Rattle.model.specs.Moments.{Setup, Status, gone, idle, Moment, status, is_alive, is_in, after, next, next_phase, own_next, run_by, doom, doom_cause, dooming_touches}
+use Rattle.model.specs.Moments.{Setup, Status, gone, idle, Moment, status, is_alive, is_in, after, next, own_next, run_by, doom, doom_cause, dooming_touches}
 use Rattle.model.specs.Legal.{items, Legal}
 use Rattle.model.specs.Suits.{suits}
 use Rattle.history_laws.proofs.Laws.{after_one_more}

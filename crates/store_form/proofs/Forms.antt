@@ -11,17 +11,15 @@ use Rattle.ids.specs.declared.limits.TheConstants.{LARGEST_FILE, MAX_PROCESSES}
 use Rattle.model.specs.Moments.{Setup}
 use Rattle.entry_codec.specs.declared.fault.Fault.{Fault}
 use Rattle.entry_codec.specs.declared.fault.Wrong.TheVariants as wrong
-use Rattle.entry_codec.specs.declared.fault.ReadError.{ReadError}
-use Rattle.entry_codec.specs.declared.fault.ReadError.TheVariants as errors
 use Rattle.entry_codec.specs.Parts.{u32_bytes}
-use Rattle.entry_codec.specs.Reading.{Read, ◌>>=◌, Gives, fault_at, byte_at, number_at, items_at, two}
-use Rattle.entry_codec.proofs.Formats.{IsBytes, Takes, Takes-then, IsFormat, bind_ok, holds_ok, ok_is, done, two_takes, two_again, three_takes, three_again}
+use Rattle.entry_codec.specs.Reading.{Read, ◌>>=◌, fault_at, number_at, items_at, two}
+use Rattle.entry_codec.proofs.Formats.{IsBytes, Takes, Takes-then, IsFormat, bind_ok, holds_ok, ok_is, two_takes, two_again, three_takes, three_again}
 use Rattle.entry_codec.proofs.PartForms.{byte_format, u32_format}
 use Rattle.store_form.specs.declared.fault.SetupError.{SetupError}
 use Rattle.store_form.specs.declared.fault.SetupError.TheVariants as why
 use Rattle.store_form.specs.declared.read.Setup.{Setup as Made}
 use Rattle.store_form.specs.Setups.{form, bounds_bytes, priority_bytes, priorities_bytes, body_bytes, setup_bytes, AreBounds, ArePriorities, IsSetup}
-use Rattle.store_form.specs.ReadingSetups.{setup_of, in_range, file_bytes_at, bounds_from, bounds_at, count_at, priority_at, priorities_at, setup_from, body_in, or_fault, of_form, setup_in, FailsSo, GivesSetup}
+use Rattle.store_form.specs.ReadingSetups.{setup_of, in_range, file_bytes_at, bounds_from, bounds_at, count_at, priority_at, priorities_at, setup_from, body_in, or_fault, of_form, setup_in, GivesSetup}
 
 -- ---- numbers in a range
 

@@ -1,19 +1,20 @@
 -- Records of a history, and stores that grow by them.
-use Rattle.std.proofs.Common.{◌≡◌, ℕ, zero, suc, Bool, true, false, cond, List, [], ◌∷◌, ◌++◌, map, take, refl, sym, ap, subst, ◌∙◌, map-append}
+use Rattle.std.proofs.Common.{◌≡◌, ℕ, zero, suc, Bool, true, false, cond, List, [], ◌∷◌, ◌++◌, map, take, refl, sym, ap, ◌∙◌}
 use Rattle.std.specs.List.{flat_map, AllByRecursion}
 use Rattle.std.proofs.lemmas.Grind.{flat_map-append}
+use Rattle.std.proofs.lemmas.List.{map-append}
 use Rattle.model.specs.Steps.{Item}
 use Rattle.model.specs.Entries.{Entry}
 use Rattle.model.specs.Moments.{Moment, status, run_by, next}
 use Rattle.model.specs.Legal.{items}
 use Rattle.entry_codec.specs.Entries.{AreEntries, entries_bytes}
 use Rattle.redo_records.specs.Changing.{changes, changing}
-use Rattle.redo_records.specs.Kept.{AreOf, items_in}
+use Rattle.redo_records.specs.Kept.{AreOf}
 use Rattle.redo_records.specs.Recording.{Tell}
 use Rattle.redo_records.specs.Records.{added, as_record, records_from, all_of}
 use Rattle.redo_records.proofs.Laws.{are_items}
 use Rattle.store_form.specs.Setups.{setup_bytes}
-use Rattle.store_form.specs.Stores.{Told, told_item, told_of, IsOfChange, IsRecord, IsStore}
+use Rattle.store_form.specs.Stores.{Told, told_item, told_of, IsOfChange, IsRecord}
 use Rattle.store_form.specs.Laws.{told_records, AreChanges, StoresGrow, ToldRecordsAreChanges}
 
 abbrev Changes : Item → Type 0

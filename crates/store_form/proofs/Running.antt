@@ -1,7 +1,5 @@
 -- What the records of a history tell runs to what it committed.
-use Rattle.std.proofs.Common.{◌≡◌, ℕ, List, map, take, refl}
-use Rattle.model.specs.Steps.{Run}
-use Rattle.model.specs.Moments.{start, after}
+use Rattle.std.proofs.Common.{take, refl}
 use Rattle.redo_records.specs.Records.{records, all_of}
 use Rattle.redo_records.proofs.Laws.{first_records_make_it_again, records_lead_to_the_state}
 use Rattle.store_form.specs.Laws.{FirstRecordsRunToABeginning, RecordsRunToTheState}

@@ -1,14 +1,12 @@
 -- A setup as it is read.
 use Rattle.std.specs.Prelude.{◌≡◌, ℕ, ◌==◌, nat_le, nat_lt, ◌&&◌, List, length, Result, Ok, Err}
-use Rattle.std.specs.Prelude.{if◌then◌else◌, ⊤}
+use Rattle.std.specs.Prelude.{if◌then◌else◌, Bool, ⊤}
 use Rattle.std.specs.Int.{w32}
 use Rattle.ids.specs.declared.limits.Bounds.{Bounds}
 use Rattle.ids.specs.declared.limits.TheConstants.{LARGEST_FILE, MAX_PROCESSES}
 use Rattle.model.specs.Moments.{Setup}
 use Rattle.entry_codec.specs.declared.fault.Fault.{Fault}
 use Rattle.entry_codec.specs.declared.fault.Wrong.TheVariants as wrong
-use Rattle.entry_codec.specs.declared.fault.ReadError.{ReadError}
-use Rattle.entry_codec.specs.declared.fault.ReadError.TheVariants as read
 use Rattle.entry_codec.specs.Reading.{Read, ◌>>=◌, fault_at, byte_at, number_at, items_at, two, three}
 use Rattle.store_form.specs.declared.fault.SetupError.{SetupError}
 use Rattle.store_form.specs.declared.fault.SetupError.TheVariants.{NoMemory, OtherForm, Fault as Faulty}
@@ -52,10 +50,6 @@ body_in bytes =
     (if length setup.1 == 0 then Ok setup.0 else Err (fault_at wrong.Trailing setup.1))
 
 -- ---- a setup, or why there is none
-
-abbrev pub error_of : ReadError → SetupError
-error_of read.NoMemory = NoMemory
-error_of (read.Fault fault) = Faulty fault
 
 abbrev pub or_fault : {X : Type 0} → Result X Fault → (X → Result Setup SetupError)
     → Result Setup SetupError

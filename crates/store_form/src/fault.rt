@@ -1,8 +1,5 @@
 // Why bytes are no setup.
-ghost use Rattle.std.specs.Prelude.{◌≡◌};
-ghost use Rattle.store_form.specs.ReadingSetups.{error_of};
-
-use entry_codec::{Fault, ReadError};
+use entry_codec::Fault;
 use thiserror::Error;
 
 /// Why no setup is read.
@@ -17,16 +14,4 @@ pub enum SetupError {
     /// The bytes are no setup: the first fault from the left.
     #[error("the setup is bad where {left} of its bytes are left", left = .0.left)]
     Fault(Fault),
-}
-
-impl SetupError {
-    // What a failure of reading is told as.
-    pub(crate) fn of_read(error: ReadError) -> SetupError
-        ensures { result ≡ error_of error }
-    {
-        match error {
-            ReadError::NoMemory => SetupError::NoMemory,
-            ReadError::Fault(fault) => SetupError::Fault(fault),
-        }
-    }
 }

@@ -13,6 +13,7 @@ use std::alloc::AllocError;
 /// The number of the form that is written and read here. A form that is changed gets another one.
 pub(crate) const FORM: u32 = 1;
 
+#[tactic(auto, unfolding(entry_codec::specs::Parts::u32_bytes))]
 fn put_u32(out: &mut Vec<u8, Heap>, number: u32) -> Result<(), AllocError>
     ensures { OnOk result (out.new.items ≡ out.old.items ++ u32_bytes number) }
 {
@@ -71,6 +72,7 @@ fn put_body(
 /// Puts the setup of a kernel behind what is there: the number of the form, the kernel's bounds, and
 /// the priorities of its first processes. Where memory is refused, which is the one error, `out` is as
 /// before; as much as the setup's bytes is asked for besides.
+#[tactic(auto, unfolding(crate::specs::Setups::setup_bytes))]
 pub fn put_setup(
     priorities: &[Priority],
     bounds: Bounds,

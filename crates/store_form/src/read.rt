@@ -38,6 +38,7 @@ fn body_of(heap: Heap, bytes: &[u8]) -> Result<Setup, ReadError>
     }
 }
 
+#[tactic(auto, unfolding(crate::specs::ReadingSetups::setup_in))]
 fn whole_of(heap: Heap, bytes: &[u8]) -> Result<Setup, SetupError>
     ensures { GivesSetup result (setup_in bytes.now) }
 {
@@ -48,10 +49,12 @@ fn whole_of(heap: Heap, bytes: &[u8]) -> Result<Setup, SetupError>
             }
             match body_of(heap, rest) {
                 Ok(setup) => Ok(setup),
-                Err(e) => Err(SetupError::of_read(e)),
+                Err(ReadError::NoMemory) => Err(SetupError::NoMemory),
+                Err(ReadError::Fault(fault)) => Err(SetupError::Fault(fault)),
             }
         }
-        Err(e) => Err(SetupError::of_read(e)),
+        Err(ReadError::NoMemory) => Err(SetupError::NoMemory),
+        Err(ReadError::Fault(fault)) => Err(SetupError::Fault(fault)),
     }
 }
 
