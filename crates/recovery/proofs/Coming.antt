@@ -1,6 +1,6 @@
 -- Calls that are made again, one behind the other.
 use Rattle.std.proofs.Common.{◌≡◌, ℕ, ◌+◌, ◌==◌, ◌<◌, ◌≤◌, length, get_or, take, Bool, true, false, not, List, [], ◌∷◌, ◌++◌, Result, Ok, Err, cond, refl, sym, ap, subst, ◌∙◌, append_assoc, append-nil, map}
-use Rattle.std.specs.Prelude.{if◌then◌else◌, IfOk}
+use Rattle.std.specs.Prelude.{if◌then◌else◌, Decides, IfOk}
 use Rattle.std.specs.List.{flat_map}
 use Rattle.std.proofs.lemmas.Grind.{flat_map-append}
 use Rattle.std.proofs.lemmas.List.{map-append, take_more, take_all}
@@ -102,6 +102,10 @@ pub answered : (old new : Shown) (pid : ℕ) (call : Call) (reply : Reply) → o
 answered old new pid call reply changed kept step a is setup told comes =
     let said : IsStep old new pid (Do call) (Answers a) = subst (λ (r : Reply). IsStep old new pid (Do call) r) is step in
     comes_more setup old.log new.log told pid call a (limit_of new.log) changed kept.legal said.entry comes
+
+pub is_told_by : (old new : Log) (pid : ℕ) (call : Call) (reply : Reply) (told : Answer) (same : Bool) → Answered old new pid call reply → same ≡ true → Decides same (reply ≡ Answers told) → IsTold old new pid call told
+is_told_by old new pid call reply told true answered is decides = answered told decides
+is_told_by old new pid call reply told false answered is decides = absurd cc
 
 -- ---- what is forgotten
 

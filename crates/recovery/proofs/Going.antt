@@ -54,21 +54,25 @@ module _ {D : Type 0} (g : Ghosts D) where
   pub reads_same : (a : D) → IsTrue (g.is_usable a) → OnlyReads g a a
   reads_same a usable = record { seen = refl; clean = λ h. h; usable = usable; crash = λ file h. h }
 
+  -- how a replay stands behind a record, or behind the last one
+  abbrev Stood : Bool → Reader D g → History → List (List ℕ) → Type 0
+  Stood ended reader log payloads = MatchBool ended (Ends g reader log payloads) (Goes g reader log payloads)
+
   -- what holds up to a record, and then of it, holds behind it
-  pub goes_then : (a b c : Reader D g) (before mid after : History) (more : Bool)
+  pub goes_then : (a b c : Reader D g) (before mid after : History) (ended : Bool)
       → OnlyReads g (disk_of b) (disk_of c)
       → (IsClean g (disk_of b) → (payloads : List (List ℕ)) → Goes g a before payloads → Goes g b mid payloads)
-      → (IsClean g (disk_of c) → (payloads : List (List ℕ)) → Goes g b mid payloads → MatchBool more (Goes g c after payloads) (Ends g c after payloads))
-      → IsClean g (disk_of c) → (payloads : List (List ℕ)) → Goes g a before payloads → MatchBool more (Goes g c after payloads) (Ends g c after payloads)
-  goes_then a b c before mid after more same p q clean payloads goes = q clean payloads (p (same.clean clean) payloads goes)
+      → (IsClean g (disk_of c) → (payloads : List (List ℕ)) → Goes g b mid payloads → Stood ended c after payloads)
+      → IsClean g (disk_of c) → (payloads : List (List ℕ)) → Goes g a before payloads → Stood ended c after payloads
+  goes_then a b c before mid after ended same p q clean payloads goes = q clean payloads (p (same.clean clean) payloads goes)
 
-  pub goes_more : (c : Reader D g) (after : History) (payloads : List (List ℕ)) (more : Bool) → more ≡ true → MatchBool more (Goes g c after payloads) (Ends g c after payloads) → Goes g c after payloads
-  goes_more c after payloads true is goes = goes
-  goes_more c after payloads false is ends = absurd cc
+  pub stood_more : (c : Reader D g) (after : History) (payloads : List (List ℕ)) (ended : Bool) → ended ≡ false → Stood ended c after payloads → Goes g c after payloads
+  stood_more c after payloads true is ends = absurd cc
+  stood_more c after payloads false is goes = goes
 
-  pub goes_no_more : (c : Reader D g) (after : History) (payloads : List (List ℕ)) (more : Bool) → more ≡ false → MatchBool more (Goes g c after payloads) (Ends g c after payloads) → Ends g c after payloads
-  goes_no_more c after payloads true is goes = absurd cc
-  goes_no_more c after payloads false is ends = ends
+  pub stood_last : (c : Reader D g) (after : History) (payloads : List (List ℕ)) (ended : Bool) → ended ≡ true → Stood ended c after payloads → Ends g c after payloads
+  stood_last c after payloads true is ends = ends
+  stood_last c after payloads false is goes = absurd cc
 
   pub goes_begun : (reader : Reader D g) (log : History) (setup : Setup) (payloads : List (List ℕ)) → IsSetup setup → IsBegun g reader setup payloads → Comes setup log [] → Goes g reader log payloads
   goes_begun reader log setup payloads is begun comes = record {

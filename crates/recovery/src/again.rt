@@ -87,11 +87,11 @@ fn call_again<M: Machine>(
         return Err(Stop::NotAChange);
     }
     let reply = make_call(machine, pid, call)?;
-    if is_told(&reply, told) {
-        Ok(())
-    } else {
-        Err(stop_by(&reply))
+    let same = is_told(&reply, told);
+    if same {
+        return Ok(());
     }
+    Err(stop_by(&reply))
 }
 
 // Makes the call of an entry again. One that is of no executed call is none of a store.

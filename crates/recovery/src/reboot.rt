@@ -43,7 +43,7 @@ impl Reboot {
             return None;
         }
         let call = Call::Close(Fd(self.fd));
-        self.fd += 1;
+        self.fd = self.fd.saturating_add(1);
         Some((Pid(self.pid), call))
     }
 }

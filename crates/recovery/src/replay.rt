@@ -47,7 +47,7 @@ fn replay_at<M: Machine>(
     }
 }
 
-// Replays the next record, if there is one. It tells whether there was.
+// Replays the next record, if there is one. It tells whether none was left.
 fn replay_next<M: Machine, D: Disk>(
     heap: Heap,
     reader: &mut Reader<D>,
@@ -56,18 +56,18 @@ fn replay_next<M: Machine, D: Disk>(
 ) -> Result<bool, Error>
     requires { Kept (M.shown machine.old) }
     ensures kept { Kept (M.shown machine.new) }
-    ensures goes { IfOk result (λ more. IsClean D.Disk (disk_of reader.new)
+    ensures goes { IfOk result (λ ended. IsClean D.Disk (disk_of reader.new)
         → (payloads : List (List ℕ)) → Goes D.Disk reader.old (M.shown machine.old).log payloads
-        → MatchBool more (Goes D.Disk reader.new (M.shown machine.new).log payloads)
-        (Ends D.Disk reader.new (M.shown machine.new).log payloads)) }
+        → MatchBool ended (Ends D.Disk reader.new (M.shown machine.new).log payloads)
+        (Goes D.Disk reader.new (M.shown machine.new).log payloads)) }
     ensures same { OnlyReads D.Disk (disk_of reader.old) (disk_of reader.new) }
 {
     let found = reader.next()?;
     match found {
-        None => Ok(false),
+        None => Ok(true),
         Some(place) => {
             replay_at(heap, reader.payload(), place, machine, descriptors)?;
-            Ok(true)
+            Ok(false)
         }
     }
 }
@@ -87,8 +87,8 @@ fn replay_rest<M: Machine, D: Disk>(
     ensures same { OnlyReads D.Disk (disk_of reader.old) (disk_of reader.new) }
 {
     for _ in 0..u64::MAX {
-        let more = replay_next(heap, reader, machine, descriptors)?;
-        if !more {
+        let ended = replay_next(heap, reader, machine, descriptors)?;
+        if ended {
             return Ok(());
         }
     }

@@ -1,6 +1,5 @@
-use Rattle.std.proofs.Common.{sym}
 use Rattle.commit_log.specs.Reader.{disk_of}
-use Rattle.recovery.proofs.Going.{goes_more, goes_no_more, goes_then, reads_both, reads_same}
+use Rattle.recovery.proofs.Going.{goes_then, reads_both, reads_same, stood_last, stood_more}
 use Rattle.recovery.proofs.replay.replay_rest.Goals as goal
 
 pub loop-init : goal.loop-init
@@ -10,17 +9,17 @@ loop-init g c = record {
   goes = λ clean payloads goes. goes;
 }
 
-pub returns-in_err-more-clause-same : goal.returns-in_err-more-clause-same
-returns-in_err-more-clause-same g c = reads_both g.D.Disk (disk_of c.args.reader.now) (disk_of c.loop.reader) (disk_of c.replay_next.new.reader) c.loop.invariant.same c.replay_next.ensures.same
+pub returns-in_err-ended-clause-same : goal.returns-in_err-ended-clause-same
+returns-in_err-ended-clause-same g c = reads_both g.D.Disk (disk_of c.args.reader.now) (disk_of c.loop.reader) (disk_of c.replay_next.new.reader) c.loop.invariant.same c.replay_next.ensures.same
 
-pub returns-then-more-clause-same : goal.returns-then-more-clause-same
-returns-then-more-clause-same g c = reads_both g.D.Disk (disk_of c.args.reader.now) (disk_of c.loop.reader) (disk_of c.replay_next.new.reader) c.loop.invariant.same c.replay_next.ensures.same
+pub returns-then-ended-clause-same : goal.returns-then-ended-clause-same
+returns-then-ended-clause-same g c = reads_both g.D.Disk (disk_of c.args.reader.now) (disk_of c.loop.reader) (disk_of c.replay_next.new.reader) c.loop.invariant.same c.replay_next.ensures.same
 
-pub returns-then-more-clause-ends : goal.returns-then-more-clause-ends
-returns-then-more-clause-ends g c clean payloads goes =
+pub returns-then-ended-clause-ends : goal.returns-then-ended-clause-ends
+returns-then-ended-clause-ends g c clean payloads goes =
     let log = (g.M.Machine.shown c.replay_next.new.machine).log in
-    goes_no_more g.D.Disk c.replay_next.new.reader log payloads c.in_ok-more.more c.if-more.false
-    (goes_then g.D.Disk c.args.reader.now c.loop.reader c.replay_next.new.reader (g.M.Machine.shown c.args.machine.now).log (g.M.Machine.shown c.loop.machine).log log c.in_ok-more.more c.replay_next.ensures.same c.loop.invariant.goes c.in_ok-more.ensures.goes clean payloads goes)
+    stood_last g.D.Disk c.replay_next.new.reader log payloads c.in_ok-ended.ended c.if-ended.true
+    (goes_then g.D.Disk c.args.reader.now c.loop.reader c.replay_next.new.reader (g.M.Machine.shown c.args.machine.now).log (g.M.Machine.shown c.loop.machine).log log c.in_ok-ended.ended c.replay_next.ensures.same c.loop.invariant.goes c.in_ok-ended.ensures.goes clean payloads goes)
 
 pub loop-preserved : goal.loop-preserved
 loop-preserved g c =
@@ -28,6 +27,6 @@ loop-preserved g c =
     record {
       kept = c.replay_next.ensures.kept;
       same = reads_both g.D.Disk (disk_of c.args.reader.now) (disk_of c.loop.reader) (disk_of c.replay_next.new.reader) c.loop.invariant.same c.replay_next.ensures.same;
-      goes = λ clean payloads goes. goes_more g.D.Disk c.replay_next.new.reader log payloads c.in_ok-more.more c.if-more.true
-      (goes_then g.D.Disk c.args.reader.now c.loop.reader c.replay_next.new.reader (g.M.Machine.shown c.args.machine.now).log (g.M.Machine.shown c.loop.machine).log log c.in_ok-more.more c.replay_next.ensures.same c.loop.invariant.goes c.in_ok-more.ensures.goes clean payloads goes);
+      goes = λ clean payloads goes. stood_more g.D.Disk c.replay_next.new.reader log payloads c.in_ok-ended.ended c.if-ended.false
+      (goes_then g.D.Disk c.args.reader.now c.loop.reader c.replay_next.new.reader (g.M.Machine.shown c.args.machine.now).log (g.M.Machine.shown c.loop.machine).log log c.in_ok-ended.ended c.replay_next.ensures.same c.loop.invariant.goes c.in_ok-ended.ensures.goes clean payloads goes);
     }
