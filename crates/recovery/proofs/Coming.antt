@@ -104,8 +104,7 @@ answered old new pid call reply changed kept step a is setup told comes =
     comes_more setup old.log new.log told pid call a (limit_of new.log) changed kept.legal said.entry comes
 
 pub is_told_by : (old new : Log) (pid : ℕ) (call : Call) (reply : Reply) (told : Answer) (same : Bool) → Answered old new pid call reply → same ≡ true → Decides same (reply ≡ Answers told) → IsTold old new pid call told
-is_told_by old new pid call reply told true answered is decides = answered told decides
-is_told_by old new pid call reply told false answered is decides = absurd cc
+is_told_by old new pid call reply told same answered is decides = answered told (decides.0 is)
 
 -- ---- what is forgotten
 
@@ -147,7 +146,7 @@ module _ (entry : Entry) (call : Call) (a : Answer) (is_op : entry.op ≡ Do cal
       ap (λ (op : Op). items entry.pid (run_by idle op entry.reply entry.chosen)) is_op
       ∙ ap (λ (reply : Reply). items entry.pid (run_by idle (Do call) reply entry.chosen)) is_reply
 
-  pub told_one : told_of (entry ∷ []) ≡ told_item item ∷ []
+  told_one : told_of (entry ∷ []) ≡ told_item item ∷ []
   told_one = ap (λ (its : List Item). map told_item (its ++ [])) is_item
 
   pub tells_one : (old new : Log) → IsTold old new entry.pid call a → Tells old new (told_of (entry ∷ []))

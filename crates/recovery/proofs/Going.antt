@@ -55,7 +55,7 @@ module _ {D : Type 0} (g : Ghosts D) where
   reads_same a usable = record { seen = refl; clean = λ h. h; usable = usable; crash = λ file h. h }
 
   -- how a replay stands behind a record, or behind the last one
-  abbrev Stood : Bool → Reader D g → History → List (List ℕ) → Type 0
+  abbrev pub Stood : Bool → Reader D g → History → List (List ℕ) → Type 0
   Stood ended reader log payloads = MatchBool ended (Ends g reader log payloads) (Goes g reader log payloads)
 
   -- what holds up to a record, and then of it, holds behind it
@@ -102,7 +102,7 @@ module _ {D : Type 0} (g : Ghosts D) where
   }
 
   -- what the next record of a reader is
-  abbrev NextReads : Reader D g → Reader D g → Option ℕ → Type 0
+  abbrev pub NextReads : Reader D g → Reader D g → Option ℕ → Type 0
   NextReads old new found =
       IsClean g (disk_of new) → (before rest : List (List ℕ)) → IsAt old before rest
       → MatchOption found ((rest ≡ []) × IsAt new before [])
