@@ -115,12 +115,12 @@ module _ {D : Type 0} (g : Ghosts D) where
   setup_next old new setup first is_setup same = record {
     is_setup = is_setup;
     begins = λ clean payloads is_at.
-      let next = first clean payloads is_at in
-      record {
-        later = next.0;
-        whole = next.1 ∙ ap (λ (p : List ℕ). p ∷ next.0) same;
-        is_at = subst (λ (p : List ℕ). IsAt new (p ∷ []) next.0) same next.2;
-      };
+        let next = first clean payloads is_at in
+        record {
+          later = next.0;
+          whole = next.1 ∙ ap (λ (p : List ℕ). p ∷ next.0) same;
+          is_at = subst (λ (p : List ℕ). IsAt new (p ∷ []) next.0) same next.2;
+        };
   }
 
   pub record_next : (old new : Reader D g) (before after : History) (found : Option ℕ) (place : ℕ) → found ≡ Some place → NextReads old new found

@@ -71,12 +71,7 @@ fn make_call<M: Machine>(machine: &mut M, pid: Pid, call: &Call) -> Result<Reply
 }
 
 // Makes a call again that has this answer told.
-fn call_again<M: Machine>(
-    machine: &mut M,
-    pid: Pid,
-    call: &Call,
-    told: &Answer,
-) -> Result<(), Stop>
+fn call_again<M: Machine>(machine: &mut M, pid: Pid, call: &Call, told: &Answer) -> Result<(), Stop>
     requires { Kept (M.shown machine.old) }
     ensures kept { Kept (M.shown machine.new) }
     ensures told { OnOk result (IsTold

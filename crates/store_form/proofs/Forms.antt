@@ -13,7 +13,7 @@ use Rattle.entry_codec.specs.declared.fault.Fault.{Fault}
 use Rattle.entry_codec.specs.declared.fault.Wrong.TheVariants as wrong
 use Rattle.entry_codec.specs.Parts.{u32_bytes}
 use Rattle.entry_codec.specs.Reading.{Read, ◌>>=◌, fault_at, number_at, items_at, two}
-use Rattle.entry_codec.proofs.Formats.{IsBytes, Takes, Takes-then, IsFormat, bind_ok, holds_ok, ok_is, two_takes, two_again, three_takes, three_again}
+use Rattle.entry_codec.proofs.Formats.{IsBytes, Takes, Takes-then, IsFormat, bind_ok, holds_ok, ok_is, done, two_takes, two_again, three_takes, three_again}
 use Rattle.entry_codec.proofs.PartForms.{byte_format, u32_format}
 use Rattle.store_form.specs.declared.fault.SetupError.{SetupError}
 use Rattle.store_form.specs.declared.fault.SetupError.TheVariants as why
@@ -31,12 +31,12 @@ ranged_format : {f : ℕ → List ℕ} {F : ℕ → Type 0} {r : List ℕ → Re
     → ((n : ℕ) → is_right n ≡ true → G n) → ((n : ℕ) → G n → is_right n ≡ true) → ((n : ℕ) → G n → F n) → IsFormat f G (λ bytes. r bytes >>= λ n. in_range n is_right)
 ranged_format {f = f} {r = r} G is_right fa says shows within = record {
   takes = λ bytes x fits e.
-    let a = bind_ok (r bytes) (λ n. in_range n is_right) x e in
-    let g = in_range_ok a.0 x is_right a.2 in
-    let t = fa.takes bytes a.0 fits a.1 in
-    subst (λ (y : ℕ × List ℕ). Takes bytes (f y.0) y.1 × G y.0) g.1 (t.0, says a.0.0 g.0);
+      let a = bind_ok (r bytes) (λ n. in_range n is_right) x e in
+      let g = in_range_ok a.0 x is_right a.2 in
+      let t = fa.takes bytes a.0 fits a.1 in
+      subst (λ (y : ℕ × List ℕ). Takes bytes (f y.0) y.1 × G y.0) g.1 (t.0, says a.0.0 g.0);
   again = λ n rest p.
-    ap (λ (y : Read ℕ). y >>= λ n. in_range n is_right) (fa.again n rest (within n p)) ∙ rw (shows n p) refl;
+      ap (λ (y : Read ℕ). y >>= λ n. in_range n is_right) (fa.again n rest (within n p)) ∙ rw (shows n p) refl;
 }
 
 -- ---- the bounds
@@ -158,6 +158,9 @@ same_form : (b : Bool) (r other : Result Setup SetupError) (y : Setup) (n : ℕ)
 same_form true r other y n is e = (refl, e)
 same_form false r other y n is e = absurd cc
 
+same_ok : (x y : Setup) → ◌≡◌ {A = Result Setup SetupError} (Ok x) (Ok y) → x ≡ y
+same_ok x y h = cc
+
 setup_takes : (bytes : List ℕ) (setup : Setup) → IsBytes bytes → setup_in bytes ≡ Ok setup → IsSetup setup × (bytes ≡ setup_bytes setup)
 unfolding setup_in setup_bytes
 setup_takes bytes setup fits e =
@@ -168,11 +171,9 @@ setup_takes bytes setup fits e =
     let g = same_form (eqb n form) (or_fault (body_in left) (λ s. Ok s)) (Err (why.OtherForm n)) setup n refl a.2 in
     let b = told_ok (body_in left) (λ s. Ok s) setup g.1 in
     let is_first : n ≡ form = eqb-true n form g.0 in
-    let read : body_in left ≡ Ok setup = b.1 ∙ ok_same b.0 setup b.2 in
+    let read : body_in left ≡ Ok setup = b.1 ∙ ap (λ (s : Setup). done s) (same_ok b.0 setup b.2) in
     let body = body_take left setup t.0.rest_fits read in
-    (body.1, t.0.parts ∙ ap (λ (k : ℕ). u32_bytes k ++ left) is_first ∙ ap (λ (r : List ℕ). u32_bytes form ++ r) body.0) where
-  ok_same : (x y : Setup) → ◌≡◌ {A = Result Setup SetupError} (Ok x) (Ok y) → ◌≡◌ {A = Result Setup Fault} (Ok x) (Ok y)
-  ok_same x y h = cc
+    (body.1, t.0.parts ∙ ap (λ (k : ℕ). u32_bytes k ++ left) is_first ∙ ap (λ (r : List ℕ). u32_bytes form ++ r) body.0)
 
 pub setup_again : (setup : Setup) → IsSetup setup → setup_in (setup_bytes setup) ≡ Ok setup
 unfolding setup_in setup_bytes
@@ -188,6 +189,4 @@ setup_found bytes (Err e) fits given = tt
 
 -- one setup has one form
 pub one_setup : (setup other : Setup) → IsSetup setup → IsSetup other → setup_bytes setup ≡ setup_bytes other → setup ≡ other
-one_setup setup other p q same = made_is setup other (sym (setup_again setup p) ∙ ap setup_in same ∙ setup_again other q) where
-  made_is : (x y : Setup) → ◌≡◌ {A = Result Setup SetupError} (Ok x) (Ok y) → x ≡ y
-  made_is x y h = cc
+one_setup setup other p q same = same_ok setup other (sym (setup_again setup p) ∙ ap setup_in same ∙ setup_again other q)

@@ -28,5 +28,5 @@ loop-preserved g c =
       kept = c.replay_next.ensures.kept;
       same = reads_both g.D.Disk (disk_of c.args.reader.now) (disk_of c.loop.reader) (disk_of c.replay_next.new.reader) c.loop.invariant.same c.replay_next.ensures.same;
       goes = λ clean payloads goes. stood_more g.D.Disk c.replay_next.new.reader log payloads c.in_ok-ended.ended c.if-ended.false
-      (goes_then g.D.Disk c.args.reader.now c.loop.reader c.replay_next.new.reader (g.M.Machine.shown c.args.machine.now).log (g.M.Machine.shown c.loop.machine).log log c.in_ok-ended.ended c.replay_next.ensures.same c.loop.invariant.goes c.in_ok-ended.ensures.goes clean payloads goes);
+          (goes_then g.D.Disk c.args.reader.now c.loop.reader c.replay_next.new.reader (g.M.Machine.shown c.args.machine.now).log (g.M.Machine.shown c.loop.machine).log log c.in_ok-ended.ended c.replay_next.ensures.same c.loop.invariant.goes c.in_ok-ended.ensures.goes clean payloads goes);
     }
