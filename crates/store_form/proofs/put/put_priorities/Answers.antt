@@ -1,4 +1,4 @@
-use Rattle.std.proofs.Common.{ℕ, ◌<◌, ◌^◌, ◌++◌, length, arith}
+use Rattle.std.proofs.Common.{◌<◌, ◌^◌, ◌++◌, length, arith}
 use Rattle.entry_codec.specs.Parts.{u32_bytes}
 use Rattle.entry_codec.proofs.Putting.{all_fit, more_fit, more_put}
 use Rattle.store_form.specs.Setups.{priority_bytes}
