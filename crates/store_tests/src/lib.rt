@@ -1,4 +1,5 @@
 //! Tests of stores over the kernel: they are made, left at any moment, and opened again.
+//! Never compiled or run yet, and in no line of crates.txt.
 //! They stand here so that no crate of a store is proved a second time for its tests.
 #![tactic(auto)]
 
