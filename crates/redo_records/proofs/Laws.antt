@@ -13,6 +13,7 @@ pub use Rattle.redo_records.proofs.Looking.{left_out_changes_nothing}
 pub use Rattle.redo_records.proofs.Leading.{records_lead_to_the_state}
 pub use Rattle.redo_records.proofs.Telling.{are_items, tell_first, tell_items, tell_more}
 pub use Rattle.redo_records.proofs.Suiting.{legal_entries_suit}
+pub use Rattle.redo_records.proofs.Rooms.{none_is_gone, room_where_no_place_is_needed}
 
 pub first_records_make_it_again : FirstRecordsMakeItAgain
 first_records_make_it_again root setup limit es n legal =

@@ -6,4 +6,5 @@ mod Suiting
 mod Dooming
 mod Noting
 mod Telling
+mod Rooms
 pub mod Laws

@@ -6,11 +6,13 @@ use Rattle.model.specs.Steps.{Item}
 use Rattle.model.specs.Entries.{Op, Do, Begin, Reply, Answers, Refuses, Begun, Committed}
 use Rattle.model.specs.Entries.{GivenUp, Aborted, Busy, InTransaction, NotInTransaction, HistoryFull}
 use Rattle.model.specs.Entries.{NoMemory, NoProcess, Entry}
-use Rattle.model.specs.Moments.{Status, idle, live, doomed, run_by}
+use Rattle.model.specs.Moments.{Status, gone, idle, live, doomed, run_by}
 use Rattle.model.specs.Legal.{items}
 use Rattle.redo_records.specs.Changing.{only_looks, changing}
 use Rattle.redo_records.specs.declared.transaction.Transaction.{Transaction}
 use Rattle.redo_records.specs.declared.transaction.Transaction.TheVariants.{Live, Doomed}
+use Rattle.redo_records.specs.declared.recorder.Standing.{Standing}
+use Rattle.redo_records.specs.declared.recorder.Standing.TheVariants.{Idle, Lives, IsDoomed}
 
 -- the call of an entry, if it was executed
 abbrev pub items_in : Entry → List Item
@@ -29,6 +31,22 @@ IsKept pid (live flags age calls) (Some (Live kept)) = AreOf (changing (items pi
 IsKept pid (doomed cause flags age) (Some Doomed) = ⊤
 IsKept pid _ _ = ⊥
 
+-- what a recorder tells of a process, by its status and by what is kept of it
+abbrev pub standing_of : Status → Standing
+standing_of gone = Idle
+standing_of idle = Idle
+standing_of (live flags age calls) = Lives
+standing_of (doomed cause flags age) = IsDoomed
+
+abbrev pub kept_standing : Option Transaction → Standing
+kept_standing None = Idle
+kept_standing (Some (Live kept)) = Lives
+kept_standing (Some Doomed) = IsDoomed
+
+-- the same entry, but for whom it doomed
+abbrev pub without_dooms : Entry → Entry
+without_dooms e = record e { doomed = [] }
+
 -- whether an entry is of a call that can have changed the state
 abbrev pub is_change : Op → Reply → Bool
 is_change (Do call) (Answers answer) = not (only_looks call)
@@ -39,6 +57,11 @@ abbrev pub HasPlace : Option Transaction → Type 0
 HasPlace (Some (Live kept)) = 0 < kept.room
 HasPlace (Some Doomed) = ⊤
 HasPlace None = ⊤
+
+-- room for a transaction that begins, where nothing is kept of its process
+abbrev pub HasSlot : ℕ → Option Transaction → Type 0
+HasSlot spare None = 0 < spare
+HasSlot spare (Some transaction) = ⊤
 
 -- one call more
 abbrev pub with_call : Entry → Transaction → Transaction

@@ -5,7 +5,7 @@ use Rattle.model.specs.Steps.{Item}
 use Rattle.model.specs.Entries.{Op, Do, Begin, End, Abort, Entry}
 use Rattle.model.specs.Moments.{Moment}
 use Rattle.redo_records.specs.Changing.{only_looks}
-use Rattle.redo_records.specs.Kept.{AreOf, HasPlace, IsKept}
+use Rattle.redo_records.specs.Kept.{AreOf, HasPlace, HasSlot, IsKept}
 use Rattle.redo_records.specs.declared.recorder.Record.{Record}
 use Rattle.redo_records.specs.declared.recorder.Record.TheVariants.{Call, Transaction}
 use Rattle.redo_records.specs.declared.recorder.Recorder.{Recorder}
@@ -16,9 +16,10 @@ use Rattle.redo_records.specs.declared.recorder.Recorder.{Recorder}
 abbrev pub Follows : Moment → Recorder → Type 0
 Follows m r = (pid : ℕ) → IsKept pid (m.phase pid) (get nat_eq r.transactions pid)
 
--- It has the memory for what an operation of a process may add. Ends and aborts add nothing.
+-- It has the memory for what an operation of a process may add. Ends and aborts add nothing, nor does
+-- a begin of a process of which something is kept.
 abbrev pub HasRoom : Recorder → ℕ → Op → Type 0
-HasRoom r pid (Begin flags) = 0 < spare r.transactions
+HasRoom r pid (Begin flags) = HasSlot (spare r.transactions) (get nat_eq r.transactions pid)
 HasRoom r pid (Do call) = only_looks call ≡ false → HasPlace (get nat_eq r.transactions pid)
 HasRoom r pid End = ⊤
 HasRoom r pid (Abort no_restart) = ⊤

@@ -2,7 +2,7 @@
 ghost use Rattle.std.specs.Prelude.{OnOk};
 ghost use Rattle.redo_records.specs.Recording.{HasRoom};
 
-use crate::{Record, Recorder};
+use crate::{Record, Recorder, Standing};
 use heap::Heap;
 use ids::{Answer, BeginFlags, Bytes, Call, Entry, Errno, Nums, Op, Pid, Pids, Reply};
 use std::alloc::AllocError;
@@ -57,7 +57,8 @@ fn reserve_for(recorder: &mut Recorder, entry: &Entry) -> Result<(), AllocError>
 // Of how many calls the record is that an entry completes; none is of none.
 fn told(recorder: &mut Recorder, entry: Entry) -> Result<usize, AllocError> {
     reserve_for(recorder, &entry)?;
-    Ok(match recorder.note(entry) {
+    let op = entry.op.try_clone()?;
+    Ok(match recorder.note(Some(op), &entry)? {
         Some(Record::Call(_entry)) => 1,
         Some(Record::Transaction(entries)) => entries.len(),
         None => 0,
@@ -107,11 +108,43 @@ fn a_note_takes_no_memory(rt: HostRuntime) -> Result<(), Fail> {
     let entries = [begun(heap, 1), made(heap, 1)?, committed(heap, 1)];
     for entry in entries {
         recorder.reserve(entry.pid, &entry.op)?;
+        let op = entry.op.try_clone()?;
         heap.refuse(1);
-        drop(recorder.note(entry));
+        drop(recorder.note(Some(op), &entry)?);
         let asked = heap.made();
         heap.refuse(0);
         assert_eq!(rt; asked, 0);
     }
+    Ok(())
+}
+
+// A process is known by its own entries, and by those of others.
+#[test]
+fn processes_are_followed(rt: HostRuntime) -> Result<(), Fail> {
+    let heap = heap::open(rt.alloc())?;
+    let mut recorder = Recorder::new(heap);
+    assert_eq!(rt; recorder.standing(Pid(1)), Standing::Idle);
+    let _none = told(&mut recorder, begun(heap, 1))?;
+    assert_eq!(rt; recorder.standing(Pid(1)), Standing::Lives);
+    let mut dooming = made(heap, 2)?;
+    dooming.doomed.push(Pid(1))?;
+    let _one = told(&mut recorder, dooming)?;
+    assert_eq!(rt; recorder.standing(Pid(1)), Standing::IsDoomed);
+    assert_eq!(rt; recorder.standing(Pid(2)), Standing::Idle);
+    assert_eq!(rt; recorder.followed(), 1);
+    Ok(())
+}
+
+// A change of which no copy of the operation is at hand is not noted, and nothing has changed.
+#[test]
+fn a_change_without_a_copy_is_not_noted(rt: HostRuntime) -> Result<(), Fail> {
+    let heap = heap::open(rt.alloc())?;
+    let mut recorder = Recorder::new(heap);
+    let _none = told(&mut recorder, begun(heap, 1))?;
+    let entry = made(heap, 1)?;
+    reserve_for(&mut recorder, &entry)?;
+    assert!(rt; recorder.note(None, &entry).is_err());
+    assert_eq!(rt; told(&mut recorder, made(heap, 1)?)?, 0);
+    assert_eq!(rt; told(&mut recorder, committed(heap, 1))?, 1);
     Ok(())
 }

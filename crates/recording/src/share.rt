@@ -1,0 +1,58 @@
+// Operations of which copies take no memory.
+ghost use Rattle.std.specs.Prelude.{◌≡◌};
+
+use heap::Heap;
+use ids::{Bytes, Call, Op};
+use std::mem::replace;
+
+// Has bytes stand where copies of them take no memory. Where memory for that is refused, they stay as
+// they are.
+fn share_bytes(heap: Heap, bytes: &mut Bytes)
+    ensures { bytes.new ≡ bytes.old }
+{
+    let all = replace(bytes, Bytes::new(Vec::new(heap)));
+    *bytes = all.shared();
+}
+
+// Does that to both.
+fn share_both(heap: Heap, first: &mut Bytes, second: &mut Bytes)
+    ensures first { first.new ≡ first.old }
+    ensures second { second.new ≡ second.old }
+{
+    share_bytes(heap, first);
+    share_bytes(heap, second);
+}
+
+// Does that to the paths and contents of a call that can change something.
+fn share_call(heap: Heap, call: &mut Call)
+    ensures { call.new ≡ call.old }
+{
+    match call {
+        Call::Open(path, _) => share_bytes(heap, path),
+        Call::Write(_, bytes) => share_bytes(heap, bytes),
+        Call::Pwrite(_, bytes, _) => share_bytes(heap, bytes),
+        Call::Truncate(path, _) => share_bytes(heap, path),
+        Call::Link(old, new) => share_both(heap, old, new),
+        Call::Unlink(path) => share_bytes(heap, path),
+        Call::Rename(old, new) => share_both(heap, old, new),
+        Call::Exchange(old, new) => share_both(heap, old, new),
+        Call::Mkdir(path) => share_bytes(heap, path),
+        Call::Rmdir(path) => share_bytes(heap, path),
+        Call::Symlink(target, path) => share_both(heap, target, path),
+        Call::Mknod(path, _) => share_bytes(heap, path),
+        Call::Chmod(path, _) => share_bytes(heap, path),
+        Call::Chown(path, _) => share_bytes(heap, path),
+        _ => {}
+    }
+}
+
+/// Has an operation's paths and contents stand where copies of them take no memory, as far as memory for
+/// that is not refused.
+pub(crate) fn share(heap: Heap, op: &mut Op)
+    ensures { op.new ≡ op.old }
+{
+    match op {
+        Op::Call(call) => share_call(heap, call),
+        Op::Begin(_) | Op::End | Op::Abort { no_restart: _ } => {}
+    }
+}
