@@ -2,23 +2,24 @@
 use Rattle.std.proofs.Common.{◌≡◌, ℕ, ◌+◌, ◌-◌, ◌≤◌, ◌<◌, Bool, true, false, List, [], ◌∷◌, ◌++◌, length, map, drop, Option, Some, None, Result, Ok, Err, refl, sym, ap, ◌∙◌, subst, subst₂, arith, append-nil}
 use Rattle.std.proofs.Math.Seq.{drop-length}
 use Rattle.std.proofs.lemmas.List.{drop-append-le, length-append, length-drop, length-map, map-append}
-use Rattle.std.specs.Prelude.{OnOk, is_err}
-use Rattle.history.specs.Log.{Log}
+use Rattle.std.specs.Prelude.{IfOk, OnOk, is_err}
+use Rattle.history.specs.Log.{Log, all_forgotten}
 use Rattle.model.specs.Steps.{Item}
 use Rattle.model.specs.Entries.{Entry}
 use Rattle.model.specs.Moments.{Moment, after, at_start, idle, next, status}
 use Rattle.model.specs.Legal.{Legal}
 use Rattle.model.specs.Suits.{suits}
 use Rattle.history_laws.proofs.Laws.{after_one_more}
-use Rattle.machine.specs.Shown.{limit_of, moment, setup_of}
-use Rattle.machine.specs.Steps.{with_entry}
+use Rattle.machine.specs.Shown.{Shown, Kept, limit_of, moment, setup_of}
+use Rattle.machine.specs.Steps.{forgetting, with_entry}
 use Rattle.redo_records.specs.Records.{added, as_record, records, records_from}
 use Rattle.redo_records.specs.Recording.{Follows, Tell, entries_of, told}
 use Rattle.redo_records.specs.declared.recorder.Record.{Record}
 use Rattle.redo_records.specs.declared.recorder.Recorder.{Recorder}
 use Rattle.redo_records.proofs.Laws.{legal_entries_suit, records_grow, tell_more}
-use Rattle.recording.specs.Noted.{made_of}
+use Rattle.recording.specs.Noted.{AreFaithful, IsRecorded, Keep, made_of}
 use Rattle.recording.specs.Recorded.{AreRest, records_of}
+use Rattle.recording.specs.declared.notes.Notes.{Notes}
 
 -- ---- at the start
 
@@ -27,6 +28,26 @@ idle_at_start log none pid = ap (λ es. (after 0 (setup_of log) es).phase pid) n
 
 pub none_at_start : (log : Log) → log.entries ≡ [] → (rs : List Record) → rs ≡ [] → AreRest log 0 rs
 none_at_start log none rs empty = subst₂ (λ es xs. AreRest (record log { entries = es }) 0 xs) (sym none) (sym empty) (record { order = omega arith; tell = tt })
+
+pub recorded_at_start : (v : Shown) (notes : Notes) (priorities : List ℕ) → Kept v → v.log.entries ≡ [] → v.log.priorities ≡ priorities → length priorities ≤ 4096 → ((log : Log) → log.entries ≡ [] → Keep log notes) → IsRecorded v notes
+recorded_at_start v notes priorities kept none same few keep = record {
+  kept = kept;
+  faithful = λ alive. keep v.log none;
+  few = subst (λ (ps : List ℕ). length ps ≤ 4096) (sym same) few;
+}
+
+-- ---- entries are forgotten
+
+keep_forgotten : (log : Log) (notes : Notes) → Keep log notes → Keep (all_forgotten log) notes
+keep_forgotten log notes keep = record { follows = keep.follows; waiting = record { order = keep.waiting.order; tell = keep.waiting.tell } }
+
+pub recorded_forgotten : (old new : Shown) (notes : Notes) (b : Bool) → IsRecorded old notes → Kept new → (b ≡ true → new ≡ forgetting old) → (b ≡ false → new ≡ old) → IsRecorded new notes
+recorded_forgotten old new notes true is kept yes no = record {
+  kept = kept;
+  faithful = λ alive. subst (λ (v : Shown). Keep v.log notes) (sym (yes refl)) (keep_forgotten old.log notes (is.faithful alive));
+  few = subst (λ (v : Shown). length v.log.priorities ≤ 4096) (sym (yes refl)) is.few;
+}
+recorded_forgotten old new notes false is kept yes no = subst (λ (v : Shown). IsRecorded v notes) (sym (no refl)) is
 
 -- ---- one entry more
 
@@ -112,3 +133,13 @@ all_taken log taken now rs none rest is empty =
       order = omega (arith, all);
       tell = subst₂ Tell (sym (ap (λ n. drop n (records_of log)) all ∙ drop-length (records_of log))) (ap (map entries_of) (sym empty)) tt;
     }
+
+-- ---- what a fault tells
+
+pub if_ok_so : {A E : Type 0} (r : Result A E) (P Q : A → Type 0) (R : Type 0) → ((x : A) → R → P x → Q x) → OnOk r R → IfOk r P → IfOk r Q
+if_ok_so (Ok x) P Q R so h p = so x h p
+if_ok_so (Err e) P Q R so h p = tt
+
+pub on_ok_both : {A E : Type 0} (r : Result A E) (P Q R : Type 0) → (P → Q → R) → OnOk r P → OnOk r Q → OnOk r R
+on_ok_both (Ok x) P Q R so p q = so p q
+on_ok_both (Err e) P Q R so p q = tt

@@ -1,10 +1,11 @@
 -- What is noted of a history.
 use Rattle.std.specs.Prelude.{◌≡◌, ℕ, false, List, [], ◌∷◌, Option, Some, None, IfSome}
-use Rattle.std.specs.Prelude.{if◌then◌else◌}
+use Rattle.std.specs.Prelude.{◌≤◌, length, if◌then◌else◌}
+use Rattle.ids.specs.declared.limits.TheConstants.{MAX_PROCESSES}
 use Rattle.history.specs.Log.{Log}
 use Rattle.model.specs.Entries.{Op, Do, Begin, End, Abort, Reply, HistoryFull, NoMemory, Entry}
 use Rattle.model.specs.Moments.{has_free}
-use Rattle.machine.specs.Shown.{limit_of, moment}
+use Rattle.machine.specs.Shown.{Shown, Kept, limit_of, moment}
 use Rattle.machine.specs.Steps.{with_entry}
 use Rattle.redo_records.specs.Recording.{Follows, HasRoom}
 use Rattle.redo_records.specs.declared.recorder.Record.{Record}
@@ -21,6 +22,12 @@ pub record Keep (log : Log) (notes : Notes) : Type 0 where
 -- It is so unless something was lost.
 abbrev pub AreFaithful : Log → Notes → Type 0
 AreFaithful log notes = notes.lost ≡ false → Keep log notes
+
+-- what holds of each machine that records
+pub record IsRecorded (v : Shown) (notes : Notes) : Type 0 where
+  pub kept : Kept v
+  pub faithful : AreFaithful v.log notes
+  pub few : length v.log.priorities ≤ MAX_PROCESSES
 
 -- a record that an entry completes, if it does
 abbrev pub made_of : Option Record → List Record

@@ -34,10 +34,10 @@ pub(crate) fn needed<M: Machine>(machine: &M, recorder: &Recorder, pid: Pid, op:
     requires follows { Follows (moment (M.shown machine.now).log) recorder.now }
     ensures { result ≡ needed (status (moment (M.shown machine.now).log) pid) op.now }
 {
-    if !machine.is_living(pid) {
-        return 1;
+    if machine.is_living(pid) {
+        return needed_by(recorder.standing(pid), op);
     }
-    needed_by(recorder.standing(pid), op)
+    1
 }
 
 // How many places the transaction of such a process holds.

@@ -11,6 +11,7 @@ mod asking;
 mod notes;
 mod recording;
 mod share;
+mod stepping;
 
 pub use notes::TakeFault;
 pub use recording::Recording;

@@ -8,7 +8,7 @@ ghost use Rattle.machine.specs.Shown.{limit_of, moment, setup_of};
 ghost use Rattle.machine.specs.Steps.{with_entry};
 ghost use Rattle.redo_records.specs.Recording.{Follows, HasRoom};
 ghost use Rattle.recording.specs.Noted.{AreFaithful, Keep, made_of};
-ghost use Rattle.recording.specs.Recorded.{AreRest};
+ghost use Rattle.recording.specs.Recorded.{AreRest, records_of};
 ghost use Rattle.recording.specs.declared.notes.TakeFault.TheVariants.{Lost, OutOfStep};
 
 use crate::share::share;
@@ -160,13 +160,13 @@ impl Notes {
     pub(crate) fn take(&mut self, taken: u64) -> Result<Vec<Record, Heap>, TakeFault>
         requires { self.old.lost ≡ false
             → self.old.taken + length self.old.waiting.items < 2 ^ 64 }
-        ensures waiting { IfOk result (λ records. records.items ≡ self.old.waiting.items) }
-        ensures none { OnOk result (self.new.waiting.items ≡ []) }
-        ensures taken { OnOk result
-            (self.new.taken ≡ self.old.taken + length self.old.waiting.items) }
+        ensures rest { IfOk result (λ records. (log : Log) → Keep log self.old
+            → AreRest log taken records.items) }
+        ensures keep { (log : Log) → Keep log self.old → Keep log self.new }
+        ensures taken { OnOk result ((log : Log) → Keep log self.old
+            → self.new.taken ≡ length (records_of log)) }
         ensures step { OnOk result (taken ≡ self.old.taken) }
         ensures there { OnOk result (self.old.lost ≡ false) }
-        ensures recorder { self.new.recorder ≡ self.old.recorder }
         ensures lost { self.new.lost ≡ self.old.lost }
         ensures err { OnErr result (self.new ≡ self.old) }
         ensures out_of_step { result ≡ Err OutOfStep → taken ≢ self.old.taken }

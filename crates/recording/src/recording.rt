@@ -2,17 +2,16 @@
 ghost use Rattle.ids.specs.Bounds.{bounds_of, given_by_default};
 ghost use Rattle.ids.specs.declared.limits.TheConstants.{LARGEST_FILE, MAX_ENTRIES, MAX_PROCESSES};
 ghost use Rattle.std.specs.Prelude.{◌≡◌, ◌≢◌, ◌↔◌, ◌<◌, ◌≤◌, ◌^◌, [], length, true, false};
-ghost use Rattle.std.specs.Prelude.{Err, IfOk, OnErr, OnOk, not};
+ghost use Rattle.std.specs.Prelude.{Err, IfOk, OnErr, OnOk};
 ghost use Rattle.model.specs.Moments.{is_alive};
 ghost use Rattle.history_laws.specs.Headline.{IsSerializable};
 ghost use Rattle.machine.specs.Shown.{Kept, limit_of, setup_of};
-ghost use Rattle.machine.specs.Steps.{forgetting, is_no_entry, IsStep, Steps};
-ghost use Rattle.recording.specs.Noted.{AreFaithful, CanNote};
+ghost use Rattle.machine.specs.Steps.{forgetting, IsStep, Steps};
 ghost use Rattle.recording.specs.Recorded.{AreRest, records_of};
 ghost use Rattle.recording.specs.declared.notes.TakeFault.TheVariants.{Lost, OutOfStep};
 
-use crate::asking::{needed, refusal};
 use crate::notes::{Notes, TakeFault};
+use crate::stepping::step;
 use heap::Heap;
 use history::History;
 use ids::{Limits, Op, Pid, Priority, Reply};
@@ -41,10 +40,7 @@ impl<M: Machine> Drop for Recording<M> {
 }
 
 impl<M: Machine> Model for Recording<M> {
-    ghost use Rattle.std.specs.Prelude.{◌≤◌, length};
-    ghost use Rattle.ids.specs.declared.limits.TheConstants.{MAX_PROCESSES};
-    ghost use Rattle.machine.specs.Shown.{Kept};
-    ghost use Rattle.recording.specs.Noted.{AreFaithful};
+    ghost use Rattle.recording.specs.Noted.{IsRecorded};
     ghost use Rattle.recording.specs.Recorded.{Recorded};
 
     ghost Value = { Recorded };
@@ -55,30 +51,7 @@ impl<M: Machine> Model for Recording<M> {
       lost = r.notes.lost;
     } };
 
-    ghost invariant = { λ r. Kept (M.shown r.machine) × AreFaithful (M.shown r.machine).log r.notes
-        × (length (M.shown r.machine).log.priorities ≤ MAX_PROCESSES) };
-}
-
-// Whether a reply stands for an entry.
-fn is_entry(reply: &Reply) -> bool
-    ensures { result ≡ not (is_no_entry reply.now) }
-{
-    !matches!(reply, Reply::HistoryFull | Reply::NoMemory)
-}
-
-// Notes the entry that a step has made, the last of the history. `op` is a copy of its operation.
-fn note_last<M: Machine>(machine: &M, notes: &mut Notes, op: Option<Op>)
-    requires { CanNote (M.shown machine.now).log notes.old op }
-    ensures faithful { AreFaithful (M.shown machine.now).log notes.new }
-    ensures taken { notes.new.taken ≡ notes.old.taken }
-{
-    match machine.history().entries().last() {
-        Some(entry) => notes.note(op, entry),
-        None => {
-            drop(op);
-            notes.lost = true;
-        }
-    }
+    ghost invariant = { λ r. IsRecorded (M.shown r.machine) r.notes };
 }
 
 impl<M: Machine> Recording<M> {
@@ -104,10 +77,12 @@ impl<M: Machine> Recording<M> {
         ensures taken { IfOk result (λ r. r.taken ≡ 0) }
         ensures lost { IfOk result (λ r. r.lost ≡ false) }
     {
+        let machine = M::new(heap, priorities, limit)?;
+        let notes = Notes::new(heap);
         Ok(Recording {
             heap,
-            machine: M::new(heap, priorities, limit)?,
-            notes: Notes::new(heap),
+            machine,
+            notes,
         })
     }
 
@@ -134,10 +109,12 @@ impl<M: Machine> Recording<M> {
         ensures taken { IfOk result (λ r. r.taken ≡ 0) }
         ensures lost { IfOk result (λ r. r.lost ≡ false) }
     {
+        let machine = M::with_limits(heap, priorities, limits)?;
+        let notes = Notes::new(heap);
         Ok(Recording {
             heap,
-            machine: M::with_limits(heap, priorities, limits)?,
-            notes: Notes::new(heap),
+            machine,
+            notes,
         })
     }
 
@@ -189,26 +166,14 @@ impl<M: Machine> Recording<M> {
 
     /// One operation of one process. HistoryFull and NoMemory change nothing; each other reply is
     /// that of one new entry, of which the record waits from then on, if it completes one.
-    pub fn step(&mut self, pid: Pid, mut op: Op) -> Reply
+    pub fn step(&mut self, pid: Pid, op: Op) -> Reply
         ensures kept { Kept self.new.shown }
         ensures serial { let s = self.new.shown in
             IsSerializable 0 (setup_of s.log) (limit_of s.log) s.log.entries s.state }
         ensures step { IsStep self.old.shown self.new.shown pid op result }
         ensures taken { self.new.taken ≡ self.old.taken }
     {
-        if self.notes.lost {
-            return self.machine.step(pid, op);
-        }
-        let needed = needed(&self.machine, &self.notes.recorder, pid, &op);
-        let Ok(copy) = self.notes.ask(pid, &mut op, needed) else {
-            drop(op);
-            return refusal(&self.machine, &self.notes.recorder, needed);
-        };
-        let reply = self.machine.step(pid, op);
-        if is_entry(&reply) {
-            note_last(&self.machine, &mut self.notes, copy);
-        }
-        reply
+        step(&mut self.machine, &mut self.notes, pid, op)
     }
 
     /// Steps in a row. Refused memory for the replies means that nothing has run; a later refusal
@@ -261,6 +226,8 @@ impl<M: Machine> Recording<M> {
         ensures out_of_step { result ≡ Err OutOfStep → taken ≢ self.old.taken }
         ensures is_lost { result ≡ Err Lost → self.old.lost ≡ true }
     {
+        // For the proof: there are no more entries, and so records, than can be counted.
+        let _count = self.machine.history().count();
         self.notes.take(taken)
     }
 }

@@ -10,7 +10,7 @@ pub overflow_add-above : goal.overflow_add-above
 overflow_add-above g c = omega (arith, few_are_made (g.M.Machine.shown c.args.machine.now) c.requires.kept c.requires.few, c.made.ensures)
 
 pub loop-pid-preserved : goal.loop-pid-preserved
-loop-pid-preserved g c = 
+loop-pid-preserved g c =
     let m = moment (g.M.Machine.shown c.args.machine.now).log in
     record {
       count = ap (λ n. c.loop-pid.held + n) c.places_of.ensures ∙ one_more m c.loop-pid.pid c.loop-pid.held c.standing.result c.loop-pid.invariant.count (c.standing.ensures m c.requires.follows);

@@ -6,13 +6,13 @@ use Rattle.recording.specs.Noted.{needed_by}
 use Rattle.recording.proofs.Places.{needed_gone, needed_is}
 use Rattle.recording.proofs.asking.needed.Goals as goal
 
-pub returns-then : goal.returns-then
-returns-then g c =
+pub returns : goal.returns
+returns g c =
     let v = g.M.Machine.shown c.args.machine.now in
     needed_gone (moment v.log) c.args.pid c.args.op.now (ap (λ k. is_alive k c.args.pid) (sym c.requires.kept.state) ∙ sym c.is_living.ensures ∙ c.if-is_living.false)
 
-pub returns : goal.returns
-returns g c =
+pub returns-then-is_living : goal.returns-then-is_living
+returns-then-is_living g c =
     let v = g.M.Machine.shown c.args.machine.now in
     let m = moment v.log in
     c.needed_by.ensures ∙ ap (λ s. needed_by s c.args.op.now) (c.standing.ensures m c.requires.follows)

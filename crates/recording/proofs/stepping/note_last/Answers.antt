@@ -5,7 +5,7 @@ use Rattle.model.specs.Entries.{Entry}
 use Rattle.machine.specs.Steps.{with_entry}
 use Rattle.redo_records.specs.Recording.{HasRoom}
 use Rattle.recording.proofs.Entries.{last_is, last_of}
-use Rattle.recording.proofs.recording.note_last.Goals as goal
+use Rattle.recording.proofs.stepping.note_last.Goals as goal
 
 pub note-requires-clause-room : goal.note-requires-clause-room
 note-requires-clause-room g c =

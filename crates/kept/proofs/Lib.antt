@@ -1,0 +1,2 @@
+mod Cover
+mod Reached

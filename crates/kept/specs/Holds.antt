@@ -1,0 +1,74 @@
+-- What a store has of the history of its machine, and what a crash leaves of it.
+use Rattle.std.specs.Prelude.{◌≡◌, ◌⊎◌, ℕ, ◌≤◌, List, [], ◌∷◌, ◌++◌, length, map, take, IsNone}
+use Rattle.std.specs.List.{AllByRecursion}
+use Rattle.sqlite_disk.specs.declared.Disk.{Ghosts}
+use Rattle.model.specs.Entries.{Entry}
+use Rattle.history.specs.Log.{Log}
+use Rattle.machine.specs.Shown.{limit_of, setup_of}
+use Rattle.entry_codec.specs.Entries.{entries_bytes}
+use Rattle.commit_log.specs.File.{Reads}
+use Rattle.commit_log.specs.Kept.{IsForged}
+use Rattle.commit_log.specs.Log.{CrashLeaves, Stands, key_of, disk_of}
+use Rattle.redo_records.specs.Recording.{entries_of}
+use Rattle.redo_records.specs.declared.recorder.Record.{Record}
+use Rattle.recording.specs.Recorded.{records_of}
+use Rattle.store_form.specs.Laws.{told_records, IsReached}
+use Rattle.store_form.specs.Setups.{setup_bytes, IsSetup}
+use Rattle.store_form.specs.Stores.{IsOfChange, IsRecord, IsStore, Told}
+use Rattle.kept.specs.Covering.{AreFirst, Cover}
+use Rattle.kept.specs.declared.store.Store.{Store}
+
+-- each call of these records can have changed something
+abbrev pub AreOfChanges : List Record → Type 0
+AreOfChanges rs = AllByRecursion (AllByRecursion IsOfChange) (map entries_of rs)
+
+-- The store has what it took of a history: the payloads that are kept, those that were only appended, and
+-- the records that wait tell its first records, as many as were taken.
+pub record Holds {D : Type 0} {g : Ghosts D} (store : Store D g) (log : Log)
+    (kept appended : List (List ℕ)) : Type 0 where
+  pub stands : Stands store.log kept appended
+  -- the setup was kept before anything else
+  pub begun : 1 ≤ length kept
+  pub is_setup : IsSetup (setup_of log)
+  pub records : List (List Entry)
+  pub each : AllByRecursion IsRecord records
+  pub bytes : kept ++ appended ≡ setup_bytes (setup_of log) ∷ map entries_bytes records
+  pub changes : AreOfChanges store.waiting.items
+  pub low : store.taken ≤ length (records_of log)
+  pub cover : Cover (records ++ map entries_of store.waiting.items)
+      (take store.taken (records_of log))
+
+-- it has taken all records of the history, and none waits
+pub record IsUpToDate {D : Type 0} {g : Ghosts D} (store : Store D g) (log : Log) : Type 0 where
+  pub all : store.taken ≡ length (records_of log)
+  pub none : store.waiting.items ≡ []
+
+-- Whatever a crash leaves is a log of the kept payloads and of the first of others, or is forged; and with
+-- these others the payloads tell first records of the history.
+pub record LeavesFirst {D : Type 0} {g : Ghosts D} (store : Store D g) (log : Log)
+    (kept appended : List (List ℕ)) : Type 0 where
+  pub more : List (List ℕ)
+  pub count : ℕ
+  pub tell : AreFirst log (kept ++ (appended ++ more)) count
+  pub leaves : CrashLeaves store.log kept (appended ++ more)
+
+-- The file is a store whose calls run, from the start of the history's setup, to what was committed after
+-- a beginning of the history, which has each entry whose record is told by the kept payloads.
+pub record IsRecovered (key : ℕ) (log : Log) (kept : List (List ℕ)) (file : List ℕ) : Type 0 where
+  pub payloads : List (List ℕ)
+  pub reads : Reads key file payloads
+  pub told : List Told
+  pub store : IsStore (setup_of log) payloads told
+  pub count : ℕ
+  pub tells : told ≡ told_records (take count (records_of log))
+  pub before : List Entry
+  pub reached : IsReached (setup_of log) (limit_of log) log.entries count before
+  -- no record is lost that was kept
+  pub least : (n : ℕ) → AreFirst log kept n → n ≤ count
+
+-- Whatever a crash leaves is that, or is forged.
+abbrev pub Recovers : {D : Type 0} {g : Ghosts D} → Store D g → Log → List (List ℕ) → List (List ℕ) → Type 0
+Recovers {g = g} store log kept appended =
+    (file : List ℕ) → g.may_leave (disk_of store.log) file
+    → IsRecovered (key_of store.log) log kept file
+    ⊎ IsForged (key_of store.log) kept appended file
