@@ -27,7 +27,7 @@ pub idle_at_start : (log : Log) → log.entries ≡ [] → (pid : ℕ) → (mome
 idle_at_start log none pid = ap (λ es. (after 0 (setup_of log) es).phase pid) none
 
 pub none_at_start : (log : Log) → log.entries ≡ [] → (rs : List Record) → rs ≡ [] → AreRest log 0 rs
-none_at_start log none rs empty = subst₂ (λ es xs. AreRest (record log { entries = es }) 0 xs) (sym none) (sym empty) (record { order = omega arith; tell = tt })
+none_at_start log none rs empty = subst₂ (λ (es : List Entry) (xs : List Record). AreRest (record log { entries = es }) 0 xs) (sym none) (sym empty) (record { order = omega arith; tell = tt })
 
 pub recorded_at_start : (v : Shown) (notes : Notes) (priorities : List ℕ) → Kept v → v.log.entries ≡ [] → v.log.priorities ≡ priorities → length priorities ≤ 4096 → ((log : Log) → log.entries ≡ [] → Keep log notes) → IsRecorded v notes
 recorded_at_start v notes priorities kept none same few keep = record {

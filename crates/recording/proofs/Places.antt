@@ -1,13 +1,14 @@
 -- What an operation needs of the history, and what it is answered where its memory is refused.
-use Rattle.std.proofs.Common.{◌≡◌, ◌≢◌, ℕ, suc, ◌+◌, ◌-◌, ◌≤◌, ◌<◌, Bool, true, false, length, refl, sym, ap, ap₂, ◌∙◌, subst, inl, inr, arith, leb-true, le-leb, add-one, sum}
+use Rattle.std.proofs.Common.{◌≡◌, ◌≢◌, ℕ, suc, ◌+◌, ◌-◌, ◌≤◌, ◌<◌, Bool, true, false, length, refl, sym, ap, ap₂, ◌∙◌, subst, inl, inr, arith, leb-true, leb-false, le-leb, add-one, sum, true≢false}
 use Rattle.std.specs.Prelude.{if◌then◌else◌, nat_le}
-use Rattle.std.proofs.lemmas.Bool.{cases_Bool, leb-false, lt-leb}
+use Rattle.std.proofs.lemmas.Bool.{cases_Bool, lt-leb}
 use Rattle.std.proofs.lemmas.List.{length-drop}
 use Rattle.history.specs.Log.{Log, kept}
 use Rattle.model.specs.Entries.{Op, Do, Begin, End, Abort, Reply, HistoryFull, NoMemory}
 use Rattle.model.specs.Forgetting.{limit_at}
 use Rattle.model.specs.Moments.{Status, gone, idle, live, doomed, Moment, status, is_alive, count_below, has_free, holds_place, reserved}
 use Rattle.model.specs.Replies.{needed}
+use Rattle.model.specs.State.{Kernel}
 use Rattle.history_laws.proofs.Laws.{forgetting_is_legal, legality_follows, limits_are_kept}
 use Rattle.machine.specs.Shown.{Shown, Kept, limit_of, moment, setup_of}
 use Rattle.machine.specs.Steps.{IsStep}
@@ -62,7 +63,7 @@ one_more m n held s count is =
 pub few_are_made : (v : Shown) → Kept v → length v.log.priorities ≤ 4096 → v.state.made ≤ 4096
 few_are_made v holds few =
     let within = (limits_are_kept 0 (setup_of v.log) (limit_of v.log) v.log.entries holds.legal few).committed.made in
-    subst (λ k. k.made ≤ 4096) (sym holds.state) within
+    subst (λ (k : Kernel). k.made ≤ 4096) (sym holds.state) within
 
 pub all_held : (v : Shown) → Kept v → (above : ℕ) → above ≡ v.state.made + 1 → held_below (moment v.log) above ≡ reserved (moment v.log)
 all_held v holds above is = ap (held_below (moment v.log)) (is ∙ add-one v.state.made ∙ ap (λ k. suc k.made) holds.state)
@@ -103,7 +104,7 @@ refused_by : (v : Shown) (pid : ℕ) (op : Op) → needed (status (moment v.log)
     → IsStep v v pid op (if b then NoMemory else HistoryFull)
 refused_by v pid op some true is = record {
   entry = refl;
-  full = ((λ e. absurd cc), λ none. absurd cc);
+  full = ((λ e. absurd cc), λ none. absurd (true≢false (sym is ∙ none)));
   memory = λ none same. absurd (some none);
 }
 refused_by v pid op some false is = record {
@@ -114,5 +115,5 @@ refused_by v pid op some false is = record {
 
 pub refused_step : (v : Shown) (pid n : ℕ) (op : Op) (reply : Reply) → n ≡ needed (status (moment v.log) pid) op → n ≢ 0 → reply ≡ refusal v.log n → IsStep v v pid op reply
 refused_step v pid n op reply is some said =
-    let all : IsStep v v pid op (refusal v.log (needed (status (moment v.log) pid) op)) = refused_by v pid op (subst (λ k. k ≢ 0) is some) _ refl in
+    let all : IsStep v v pid op (refusal v.log (needed (status (moment v.log) pid) op)) = refused_by v pid op (subst (λ (k : ℕ). k ≢ 0) is some) _ refl in
     subst (IsStep v v pid op) (ap (refusal v.log) (sym is) ∙ sym said) all

@@ -129,8 +129,8 @@ impl Notes {
         ensures taken { self.new.taken ≡ self.old.taken }
         ensures lost { self.new.lost ≡ self.old.lost }
         ensures op { op.new ≡ op.old }
-        ensures copy { IfOk result (λ copy. IfSome copy (λ copy. copy ≡ op.old)) }
-        ensures room { OnOk result (HasRoom self.new.recorder pid op.old) }
+        ensures copy { IfOk result (λ copy. IfSome copy (λ copy. copy ≡ op.new)) }
+        ensures room { OnOk result (HasRoom self.new.recorder pid op.new) }
         ensures err { OnErr result (needed ≢ 0) }
     {
         if needed == 0 {
@@ -172,7 +172,8 @@ impl Notes {
         ensures out_of_step { result ≡ Err OutOfStep → taken ≢ self.old.taken }
         ensures is_lost { result ≡ Err Lost → self.old.lost ≡ true }
     {
-        if self.lost {
+        let lost = self.lost;
+        if lost {
             return Err(TakeFault::Lost);
         }
         if taken != self.taken {
@@ -182,7 +183,8 @@ impl Notes {
             return Err(TakeFault::NoMemory);
         };
         let records = replace(&mut self.waiting, room);
-        self.taken += records.len() as u64;
+        let all = taken + records.len() as u64;
+        self.taken = all;
         Ok(records)
     }
 }

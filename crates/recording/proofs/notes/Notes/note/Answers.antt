@@ -4,5 +4,5 @@ use Rattle.recording.proofs.notes.Notes.note.Goals as goal
 
 pub returns-clause-faithful : goal.returns-clause-faithful
 returns-clause-faithful c = λ old new keep is legal alive.
-    let both = on_ok c.note_entry-noted.result _ c.note_entry-noted.ensures (sym c.is_err.ensures ∙ alive) old new c.args.self.now.taken keep.follows keep.waiting is legal in
+    let both = on_ok c.note_entry-noted.result _ c.note_entry-noted.ensures (sym c.is_err.ensures.value ∙ alive) old new c.args.self.now.taken keep.follows keep.waiting is legal in
     record { follows = both.0; waiting = both.1 }
