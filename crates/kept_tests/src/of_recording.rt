@@ -6,7 +6,7 @@ use machine::Machine;
 use recording::{Recording, TakeFault};
 use redo_records::Record;
 use script::{Line, read_script};
-use std::alloc::AllocError;
+use std::alloc::{AllocError, Global};
 use std::test::Fail;
 
 // Plain calls, and transactions that commit, are given up, are doomed and begin anew. Paths and contents
@@ -18,7 +18,7 @@ static SCRIPT: &str = "priorities 0 0 0
 2 begin
 2 open /a_file_whose_path_is_longer_than_what_stands_in_a_block_with_a_count_of_owners RDWR,CREAT
 2 write 0 many_bytes_many_bytes_many_bytes_many_bytes_many_bytes_many_bytes_many_bytes_many_bytes
-3 begin restart
+3 begin RESTART
 3 mkdir /short/of_the_third
 3 stat /short
 2 mkdir /short/of_the_second
@@ -68,7 +68,8 @@ fn count(record: &Record) -> usize {
 // knows how many were taken.
 fn take<M: Machine>(machine: &mut Recording<M>, counts: &mut Vec<usize>) -> Result<bool, Fail> {
     for _ in 0..2 {
-        match machine.take(machine.taken()) {
+        let taken = machine.taken();
+        match machine.take(taken) {
             Ok(records) => {
                 for record in &records {
                     counts.push(count(record))?;
@@ -96,9 +97,9 @@ fn machine_of<M: Machine>(heap: Heap) -> Result<Recording<M>, AllocError> {
 
 // The script on a machine, where the request of this number is refused. A step that is refused memory is
 // made once more. None, where a record was lost, or memory was refused to what needs none.
-fn run<M: Machine>(heap: Heap, refused: u64) -> Result<Option<Ran>, Fail> {
+fn run<M: Machine>(alloc: Global, heap: Heap, refused: u64) -> Result<Option<Ran>, Fail> {
     let mut machine: Recording<M> = machine_of(heap)?;
-    let mut counts = Vec::new(Global);
+    let mut counts = Vec::new(alloc);
     let lines = lines_of(heap)?;
     let mut again = lines_of(heap)?;
     let mut left = lines.len();
@@ -126,8 +127,8 @@ fn run<M: Machine>(heap: Heap, refused: u64) -> Result<Option<Ran>, Fail> {
     Ok(Some(Ran { counts, requests }))
 }
 
-fn ran<M: Machine>(heap: Heap, refused: u64) -> Result<Ran, Fail> {
-    match run::<M>(heap, refused)? {
+fn ran<M: Machine>(alloc: Global, heap: Heap, refused: u64) -> Result<Ran, Fail> {
+    match run::<M>(alloc, heap, refused)? {
         Some(ran) => Ok(ran),
         None => Err(Fail::from("a record was lost, or memory was refused to an end")),
     }
@@ -156,7 +157,7 @@ fn ends_without_memory<M: Machine>(heap: Heap, steps: usize) -> Result<(), Fail>
 #[test]
 fn each_record_is_told_once(rt: HostRuntime) -> Result<(), Fail> {
     let heap = heap::open(rt.alloc())?;
-    let told = ran::<Kernel>(heap, 0)?;
+    let told = ran::<Kernel>(rt.alloc(), heap, 0)?;
     assert_eq!(rt; told.counts.as_slice(), [1, 1, 1, 3, 1, 1, 1, 1, 1]);
     Ok(())
 }
@@ -164,9 +165,9 @@ fn each_record_is_told_once(rt: HostRuntime) -> Result<(), Fail> {
 #[test]
 fn no_refused_memory_loses_a_record(rt: HostRuntime) -> Result<(), Fail> {
     let heap = heap::open(rt.alloc())?;
-    let told = ran::<Kernel>(heap, 0)?;
+    let told = ran::<Kernel>(rt.alloc(), heap, 0)?;
     for number in 1..told.requests + 2 {
-        let same = ran::<Kernel>(heap, number)?;
+        let same = ran::<Kernel>(rt.alloc(), heap, number)?;
         assert_eq!(rt; same.counts.as_slice(), told.counts.as_slice());
     }
     Ok(())
@@ -186,7 +187,7 @@ fn no_lack_of_memory_loses_a_record(rt: HostRuntime) -> Result<(), Fail> {
 fn records_are_taken_in_step(rt: HostRuntime) -> Result<(), Fail> {
     let heap = heap::open(rt.alloc())?;
     let mut machine: Recording<Kernel> = machine_of(heap)?;
-    let mut counts = Vec::new(Global);
+    let mut counts = Vec::new(rt.alloc());
     for line in lines_of(heap)? {
         drop(machine.step(line.pid, line.op));
     }

@@ -76,8 +76,10 @@ pub(crate) fn refusal<M: Machine>(machine: &M, recorder: &Recorder, needed: usiz
 {
     let held = held(machine, recorder);
     let history = machine.history();
-    let left = history.limit() - history.entries().len();
-    if left.saturating_sub(held) < needed {
+    let count = history.entries().len();
+    let left = history.limit() - count;
+    let free = left.saturating_sub(held);
+    if free < needed {
         return Reply::HistoryFull;
     }
     Reply::NoMemory

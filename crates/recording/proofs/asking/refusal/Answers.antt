@@ -1,14 +1,22 @@
-use Rattle.std.proofs.Common.{◌≡◌, ◌-◌, arith, length, refl}
-use Rattle.history.specs.Log.{kept}
+use Rattle.std.proofs.Common.{◌≡◌, ◌-◌, ◌∙◌, ap, arith, length, rules}
+use Rattle.history.specs.Log.{Log, kept}
 use Rattle.recording.proofs.Places.{none_free, some_free}
 use Rattle.recording.proofs.asking.refusal.Goals as goal
 
-pub returns-then : goal.returns-then
-returns-then g c =
+pub returns-then-free-needed : goal.returns-then-free-needed
+returns-then-free-needed g c =
     let v = g.M.Machine.shown c.args.machine.now in
-    none_free v.log c.args.needed (v.log.limit - length (kept v.log)) c.held-held.result c.requires.kept.forgot c.requires.some refl c.held-held.ensures (omega arith)
+    let log : c.history.result.now ≡ v.log = c.history.ensures.value in
+    let limit : c.limit.result ≡ v.log.limit = c.limit.ensures.value ∙ ap (λ (l : Log). l.limit) log in
+    let long : length c.entries.result.now ≡ length (kept v.log) = ap length (c.entries.ensures.kept ∙ ap kept log) in
+    let count : c.len-count.result ≡ length c.entries.result.now = search rules in
+    none_free v.log c.args.needed (c.limit.result - c.len-count.result) c.held-held.result c.requires.kept.forgot c.requires.some (omega (arith, limit, long, count)) c.held-held.ensures (omega (arith, c.saturating_sub-free.ensures, c.if-free-needed.true))
 
 pub returns : goal.returns
 returns g c =
     let v = g.M.Machine.shown c.args.machine.now in
-    some_free v.log c.args.needed (v.log.limit - length (kept v.log)) c.held-held.result c.requires.kept.forgot c.requires.some refl c.held-held.ensures (omega arith)
+    let log : c.history.result.now ≡ v.log = c.history.ensures.value in
+    let limit : c.limit.result ≡ v.log.limit = c.limit.ensures.value ∙ ap (λ (l : Log). l.limit) log in
+    let long : length c.entries.result.now ≡ length (kept v.log) = ap length (c.entries.ensures.kept ∙ ap kept log) in
+    let count : c.len-count.result ≡ length c.entries.result.now = search rules in
+    some_free v.log c.args.needed (c.limit.result - c.len-count.result) c.held-held.result c.requires.kept.forgot c.requires.some (omega (arith, limit, long, count)) c.held-held.ensures (omega (arith, c.saturating_sub-free.ensures, c.if-free-needed.false))
