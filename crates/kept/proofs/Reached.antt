@@ -10,6 +10,8 @@ use Rattle.model.specs.Legal.{Legal}
 use Rattle.history.specs.Log.{Log}
 use Rattle.machine.specs.Shown.{limit_of, setup_of}
 use Rattle.commit_log.specs.Kept.{ReadsFirst}
+use Rattle.commit_log.specs.Log.{key_of}
+use Rattle.sqlite_disk.specs.declared.Disk.{Ghosts}
 use Rattle.entry_codec.specs.Entries.{entries_bytes}
 use Rattle.redo_records.specs.Records.{added, as_record, records_from}
 use Rattle.recording.specs.Recorded.{records_of}
@@ -18,7 +20,7 @@ use Rattle.store_form.specs.Setups.{setup_bytes}
 use Rattle.store_form.specs.Stores.{IsRecord, IsStore, Told, told_item, told_of}
 use Rattle.store_form.proofs.Laws.{first_records_run_to_a_beginning, stores_are_told_apart}
 use Rattle.kept.specs.Covering.{AreFirst, Cover}
-use Rattle.kept.specs.Holds.{IsRecovered}
+use Rattle.kept.specs.Holds.{CrashesLeaveBeginnings, IsRecovered}
 use Rattle.kept.proofs.Cover.{cover_first, told_append, told_cover}
 
 -- ---- each record has a call, so fewer records tell fewer calls
@@ -131,3 +133,12 @@ recovered key log (setup ∷ kept) others n file legal is some reads =
       reached = reached.1;
       least = λ m first. no_fewer log all (setup ∷ kept) n m (length kept) k part.0 is first (sym (take_on_none (setup ∷ kept) others)) (omega arith) tells;
     }
+
+-- ---- whatever a crash leaves
+
+module _ {D : Type 0} (g : Ghosts D) where
+  pub crashes_leave_beginnings : CrashesLeaveBeginnings g
+  crashes_leave_beginnings store log kept appended legal some leaves file left = elim (leaves.leaves file left) [
+    | inl reads ↦ inl (recovered (key_of store.log) log kept (appended ++ leaves.more) leaves.count file legal leaves.tell some reads)
+    | inr forged ↦ inr (leaves.more, forged)
+  ]

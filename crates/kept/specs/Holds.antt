@@ -1,8 +1,9 @@
 -- What a store has of the history of its machine, and what a crash leaves of it.
-use Rattle.std.specs.Prelude.{◌≡◌, ◌⊎◌, ℕ, ◌≤◌, List, [], ◌∷◌, ◌++◌, length, map, take, IsNone}
+use Rattle.std.specs.Prelude.{◌≡◌, ◌⊎◌, ℕ, ◌≤◌, List, [], ◌∷◌, ◌++◌, length, map, take}
 use Rattle.std.specs.List.{AllByRecursion}
 use Rattle.sqlite_disk.specs.declared.Disk.{Ghosts}
 use Rattle.model.specs.Entries.{Entry}
+use Rattle.model.specs.Legal.{Legal}
 use Rattle.history.specs.Log.{Log}
 use Rattle.machine.specs.Shown.{limit_of, setup_of}
 use Rattle.entry_codec.specs.Entries.{entries_bytes}
@@ -67,8 +68,16 @@ pub record IsRecovered (key : ℕ) (log : Log) (kept : List (List ℕ)) (file : 
   pub least : (n : ℕ) → AreFirst log kept n → n ≤ count
 
 -- Whatever a crash leaves is that, or is forged.
-abbrev pub Recovers : {D : Type 0} {g : Ghosts D} → Store D g → Log → List (List ℕ) → List (List ℕ) → Type 0
+abbrev pub Recovers : {D : Type 0} {g : Ghosts D} → Store D g → Log → List (List ℕ) → List (List ℕ)
+    → Type 0
 Recovers {g = g} store log kept appended =
     (file : List ℕ) → g.may_leave (disk_of store.log) file
     → IsRecovered (key_of store.log) log kept file
-    ⊎ IsForged (key_of store.log) kept appended file
+    ⊎ ((more : List (List ℕ)) × IsForged (key_of store.log) kept (appended ++ more) file)
+
+-- Of a legal history, what a crash may leave of a store is a store of a beginning of it.
+abbrev pub CrashesLeaveBeginnings : {D : Type 0} → Ghosts D → Type 0
+CrashesLeaveBeginnings {D = D} g =
+    (store : Store D g) (log : Log) (kept appended : List (List ℕ))
+    → Legal 0 (setup_of log) (limit_of log) log.entries → 1 ≤ length kept
+    → LeavesFirst store log kept appended → Recovers store log kept appended

@@ -1,5 +1,7 @@
 // A store, and what it takes of a machine.
-ghost use Rattle.std.specs.Prelude.{◌≡◌, ◌++◌, [], ℕ, List, OnOk, OnErr};
+ghost use Rattle.std.specs.Prelude.{◌≡◌, ◌+◌, ◌<◌, ◌++◌, [], ℕ, List, length, Err, OnOk, OnErr};
+ghost use Rattle.recording.specs.Recorded.{records_of};
+ghost use Rattle.kept.specs.declared.fault.StoreFault.TheVariants.{NoMemory};
 
 use crate::bytes::bytes_of;
 use crate::fault::StoreFault;
@@ -42,15 +44,20 @@ impl<D: Disk> Store<D> {
         }
     }
 
-    // Appends the first of the records that wait, if there is one.
+    // Appends the first of the records that wait, of which there is one. Refused memory changes nothing.
     fn append_first(&mut self, alloc: Global) -> Result<(), StoreFault>
-        ensures appended { OnOk result ((log : History) (kept appended : List (List ℕ)) → Holds self.old log kept appended → (more : List (List ℕ)) × Holds self.new log kept (appended ++ more)) }
-        ensures crash { (log : History) (kept appended : List (List ℕ)) → Holds self.old log kept appended → LeavesFirst self.new log kept appended }
+        requires { 0 < length self.old.waiting.items }
+        ensures appended { OnOk result ((history : History) (kept appended : List (List ℕ))
+            → Holds self.old history kept appended
+            → (more : List (List ℕ)) × Holds self.new history kept (appended ++ more)) }
+        ensures crash { (history : History) (kept appended : List (List ℕ))
+            → Holds self.old history kept appended → LeavesFirst self.new history kept appended }
+        ensures fewer { OnOk result
+            (length self.new.waiting.items + 1 ≡ length self.old.waiting.items) }
+        ensures taken { self.new.taken ≡ self.old.taken }
+        ensures memory { result ≡ Err NoMemory → self.new ≡ self.old }
     {
-        let Some(record) = self.waiting.first() else {
-            return Ok(());
-        };
-        let bytes = bytes_of(self.heap, record)?;
+        let bytes = bytes_of(self.heap, &self.waiting[0])?;
         if let Err(error) = self.log.append(alloc, bytes.as_slice()) {
             return Err(StoreFault::of_log(error));
         }
@@ -59,15 +66,32 @@ impl<D: Disk> Store<D> {
     }
 
     // Appends all records that wait. What cannot be appended waits.
-    fn append_waiting(&mut self, alloc: Global) -> Result<(), StoreFault> {
+    fn append_waiting(&mut self, alloc: Global) -> Result<(), StoreFault>
+        ensures appended { OnOk result ((history : History) (kept appended : List (List ℕ))
+            → Holds self.old history kept appended
+            → (more : List (List ℕ)) × Holds self.new history kept (appended ++ more)) }
+        ensures none { OnOk result (self.new.waiting.items ≡ []) }
+        ensures crash { (history : History) (kept appended : List (List ℕ))
+            → Holds self.old history kept appended → LeavesFirst self.new history kept appended }
+        ensures taken { self.new.taken ≡ self.old.taken }
+    {
         while !self.waiting.is_empty() {
             self.append_first(alloc)?;
         }
         Ok(())
     }
 
-    // Takes what the machine has committed since, where none waits.
-    fn take<M: Machine>(&mut self, machine: &mut Recording<M>) -> Result<(), StoreFault> {
+    // Takes what the machine has committed since, where none waits. After a fault all is as it was.
+    fn take<M: Machine>(&mut self, machine: &mut Recording<M>) -> Result<(), StoreFault>
+        requires { self.old.waiting.items ≡ [] }
+        ensures holds { OnOk result ((kept appended : List (List ℕ))
+            → Holds self.old machine.old.shown.log kept appended
+            → Holds self.new machine.old.shown.log kept appended) }
+        ensures all { OnOk result (self.new.taken ≡ length (records_of machine.old.shown.log)) }
+        ensures shown { machine.new.shown ≡ machine.old.shown }
+        ensures log { self.new.log ≡ self.old.log }
+        ensures err { OnErr result (self.new ≡ self.old) }
+    {
         match machine.take(self.taken) {
             Ok(records) => {
                 self.waiting = records;
@@ -87,7 +111,19 @@ impl<D: Disk> Store<D> {
         &mut self,
         alloc: Global,
         machine: &mut Recording<M>,
-    ) -> Result<(), StoreFault> {
+    ) -> Result<(), StoreFault>
+        // All that the machine has committed is in the log.
+        ensures appended { OnOk result ((kept appended : List (List ℕ))
+            → Holds self.old machine.old.shown.log kept appended
+            → (more : List (List ℕ))
+            × Holds self.new machine.old.shown.log kept (appended ++ more)) }
+        ensures all { OnOk result (IsUpToDate self.new machine.old.shown.log) }
+        // At any result, a crash leaves what was kept, and first records of the others.
+        ensures crash { (kept appended : List (List ℕ))
+            → Holds self.old machine.old.shown.log kept appended
+            → LeavesFirst self.new machine.old.shown.log kept appended }
+        ensures shown { machine.new.shown ≡ machine.old.shown }
+    {
         self.append_waiting(alloc)?;
         self.take(machine)?;
         self.append_waiting(alloc)
@@ -98,7 +134,19 @@ impl<D: Disk> Store<D> {
         &mut self,
         alloc: Global,
         machine: &mut Recording<M>,
-    ) -> Result<(), StoreFault> {
+    ) -> Result<(), StoreFault>
+        // All that the machine has committed is on the disk.
+        ensures kept { OnOk result ((kept appended : List (List ℕ))
+            → Holds self.old machine.old.shown.log kept appended
+            → (more : List (List ℕ))
+            × Holds self.new machine.old.shown.log (kept ++ (appended ++ more)) []) }
+        ensures all { OnOk result (IsUpToDate self.new machine.old.shown.log) }
+        // At any result, a crash leaves what was kept, and first records of the others.
+        ensures crash { (kept appended : List (List ℕ))
+            → Holds self.old machine.old.shown.log kept appended
+            → LeavesFirst self.new machine.old.shown.log kept appended }
+        ensures shown { machine.new.shown ≡ machine.old.shown }
+    {
         self.flush(alloc, machine)?;
         match self.log.keep() {
             Ok(()) => Ok(()),

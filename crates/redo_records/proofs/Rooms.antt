@@ -1,5 +1,6 @@
 -- What is told of a process, and when there is room for what it asks.
-use Rattle.std.proofs.Common.{◌≡◌, ◌≢◌, ◌<◌, ℕ, Bool, true, false, Option, Some, None, refl, arith, nat_eq}
+use Rattle.std.proofs.Common.{◌≡◌, ◌≢◌, ◌<◌, ◌≤◌, ◌==◌, ℕ, Bool, true, false, Option, Some, None, Result, Ok, Err, OnOk, refl, sym, subst, arith, nat_eq}
+use Rattle.std.proofs.lemmas.Bool.{eqb-true}
 use Rattle.std.specs.Prelude.{if◌then◌else◌, is_some}
 use Rattle.std.specs.HashMap.{get}
 use Rattle.model.specs.Entries.{BeginFlags, Cause, Op, Do, Begin, End, Abort}
@@ -41,6 +42,17 @@ free_of_slot spare (Some x) h none = absurd cc
 pub set_in_place : (next : Transaction) (t : Option Transaction) → is_some t ≡ true → in_place next t ≡ Some next
 set_in_place next None h = absurd cc
 set_in_place next (Some x) h = refl
+
+-- where something is kept of a process, it is set by a begin
+pub begun_in_place : (next : Transaction) (q p : ℕ) (f : ℕ → Option Transaction) → is_some (f p) ≡ true → (if q == p then in_place next (f q) else f q) ≡ (if q == p then Some next else f q)
+begun_in_place next q p f there = by (q == p) refl where
+  by : (b : Bool) → (q == p) ≡ b → (if b then in_place next (f q) else f q) ≡ (if b then Some next else f q)
+  by true is = set_in_place next (f q) (subst (λ (n : ℕ). is_some (f n) ≡ true) (sym (eqb-true q p is)) there)
+  by false is = refl
+
+pub slot_if_ok : {A E : Type 0} (r : Result A E) (spare : ℕ) (t : Option Transaction) → OnOk r (1 ≤ spare) → OnOk r (HasSlot spare t)
+slot_if_ok (Ok x) spare t h = slot_free spare t (omega arith)
+slot_if_ok (Err e) spare t h = tt
 
 doomed_slot : (spare pid : ℕ) (cause : Cause) (flags : BeginFlags) (age : ℕ) (t : Option Transaction) → IsKept pid (doomed cause flags age) t → HasSlot spare t
 doomed_slot spare pid cause flags age None h = absurd h
