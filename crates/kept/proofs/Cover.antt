@@ -26,8 +26,8 @@ cover_told (r ∷ rs) (es ∷ ess) h = (r ∷ [], rs, refl, one r es h.0, cover_
 -- and more behind them
 pub cover_more : (ess fss : List (List Entry)) (rs qs : List (List Item)) → Cover ess rs → Cover fss qs → Cover (ess ++ fss) (rs ++ qs)
 cover_more [] fss rs qs h g = subst (λ xs. Cover fss (xs ++ qs)) (sym h) g
-cover_more (es ∷ ess) fss rs qs (front, back, is, tells, rest) g =
-    (front, back ++ qs, ap (λ xs. xs ++ qs) is ∙ append_assoc front back qs, tells, cover_more ess fss back qs rest g)
+cover_more (es ∷ ess) fss rs qs h g =
+    (h.0, h.1.0 ++ qs, ap (λ (xs : List (List Item)). xs ++ qs) h.1.1.0 ∙ append_assoc h.0 h.1.0 qs, h.1.1.1.0, cover_more ess fss h.1.0 qs h.1.1.1.1 g)
 
 told_append : (rs qs : List (List Item)) → told_records (rs ++ qs) ≡ told_records rs ++ told_records qs
 told_append rs qs = ap (map told_item) (flat_map-append (λ (r : List Item). r) rs qs) ∙ map-append told_item (all_of rs) (all_of qs)
@@ -35,7 +35,9 @@ told_append rs qs = ap (map told_item) (flat_map-append (λ (r : List Item). r) 
 -- what they tell are the calls of those
 pub told_cover : (ess : List (List Entry)) (rs : List (List Item)) → Cover ess rs → flat_map told_of ess ≡ told_records rs
 told_cover [] rs h = ap told_records (sym h)
-told_cover (es ∷ ess) rs (front, back, is, tells, rest) = ap₂ (λ (xs ys : List Told). xs ++ ys) tells (told_cover ess back rest) ∙ sym (told_append front back) ∙ ap told_records (sym is)
+told_cover (es ∷ ess) rs h =
+    ap₂ (λ (xs ys : List Told). xs ++ ys) h.1.1.1.0 (told_cover ess h.1.0 h.1.1.1.1)
+    ∙ sym (told_append h.0 h.1.0) ∙ ap told_records (sym h.1.1.0)
 
 take_past : (n : ℕ) (front back : List (List Item)) → take (length front + n) (front ++ back) ≡ front ++ take n back
 take_past n [] back = refl
@@ -45,9 +47,9 @@ take_past n (r ∷ front) back = ap (λ rs. r ∷ rs) (take_past n front back)
 pub cover_first : (k : ℕ) (ess : List (List Entry)) (rs : List (List Item)) → Cover ess rs → (n : ℕ) × (n ≤ length rs) × Cover (take k ess) (take n rs)
 cover_first zero ess rs h = (0, omega arith, refl)
 cover_first (suc k) [] rs h = (0, omega arith, refl)
-cover_first (suc k) (es ∷ ess) rs (front, back, is, tells, rest) =
-    let later = cover_first k ess back rest in (
-      length front + later.0,
-      omega (arith, later.1.0, ap length is, length-append front back),
-      (front, take later.0 back, ap (take (length front + later.0)) is ∙ take_past later.0 front back, tells, later.1.1),
+cover_first (suc k) (es ∷ ess) rs h =
+    let later = cover_first k ess h.1.0 h.1.1.1.1 in (
+      length h.0 + later.0,
+      omega (arith, later.1.0, ap length h.1.1.0, length-append h.0 h.1.0),
+      (h.0, take later.0 h.1.0, ap (take (length h.0 + later.0)) h.1.1.0 ∙ take_past later.0 h.0 h.1.0, h.1.1.1.0, later.1.1),
     )

@@ -1,2 +1,3 @@
 mod Cover
 mod Reached
+mod Holding

@@ -71,7 +71,7 @@ take_on : {X : Type 0} (xs ys : List X) (c : ℕ) → xs ++ take c ys ≡ take (
 take_on [] ys c = refl
 take_on (x ∷ xs) ys c = ap (λ zs. x ∷ zs) (take_on xs ys c)
 
-take_less : {X : Type 0} (n k : ℕ) (xs : List X) → n ≤ k → take n (take k xs) ≡ take n xs
+pub take_less : {X : Type 0} (n k : ℕ) (xs : List X) → n ≤ k → take n (take k xs) ≡ take n xs
 take_less zero k xs h = refl
 take_less (suc n) zero xs h = absurd (omega arith)
 take_less (suc n) (suc k) [] h = refl
@@ -81,10 +81,10 @@ take_on_none : {X : Type 0} (xs ys : List X) → take (length xs) (xs ++ ys) ≡
 take_on_none [] ys = refl
 take_on_none (x ∷ xs) ys = ap (λ zs. x ∷ zs) (take_on_none xs ys)
 
-length-take-le : {X : Type 0} (n : ℕ) (xs : List X) → length (take n xs) ≤ n
-length-take-le zero xs = omega arith
-length-take-le (suc n) [] = omega arith
-length-take-le (suc n) (x ∷ xs) = omega (arith, length-take-le n xs)
+pub length-take-low : {X : Type 0} (n : ℕ) (xs : List X) → length (take n xs) ≤ n
+length-take-low zero xs = omega arith
+length-take-low (suc n) [] = omega arith
+length-take-low (suc n) (x ∷ xs) = omega (arith, length-take-low n xs)
 
 -- the first of some records tell no more than more of them
 told_fewer : (j k : ℕ) (ess : List (List Entry)) → j ≤ k → length (flat_map told_of (take j ess)) ≤ length (flat_map told_of (take k ess))
@@ -118,7 +118,7 @@ recovered key log (setup ∷ kept) others n file legal is some reads =
     let all : List (List ℕ) = (setup ∷ kept) ++ others in
     let whole : (setup ∷ kept) ++ take reads.count others ≡ take (suc k) all = take_on (setup ∷ kept) others reads.count in
     let part = cover_first k is.records (take n (records_of log)) is.cover in
-    let low : part.0 ≤ n = omega (arith, part.1.0, length-take-le n (records_of log)) in
+    let low : part.0 ≤ n = omega (arith, part.1.0, length-take-low n (records_of log)) in
     let least_take : take part.0 (take n (records_of log)) ≡ take part.0 (records_of log) = take_less part.0 n (records_of log) low in
     let tells : flat_map told_of (take k is.records) ≡ told_records (take part.0 (records_of log)) = told_cover (take k is.records) _ part.1.1 ∙ ap told_records least_take in
     let reached = first_records_run_to_a_beginning (setup_of log) (limit_of log) log.entries part.0 legal in

@@ -11,7 +11,7 @@ ghost use Rattle.recording.specs.Noted.{AreFaithful, Keep, made_of};
 ghost use Rattle.recording.specs.Recorded.{AreRest, records_of};
 ghost use Rattle.recording.specs.declared.notes.TakeFault.TheVariants.{Lost, OutOfStep};
 
-use crate::share::share;
+use crate::share::{is_look, share};
 use heap::Heap;
 use ids::{Entry, Op, Pid};
 use redo_records::{Record, Recorder, Standing};
@@ -115,8 +115,8 @@ impl Notes {
     }
 
     // Asks for the memory that an operation may need to be noted, which needs so many places of the
-    // history, and copies it. What needs no place is not refused, and not copied. Refused memory
-    // changes nothing that is kept.
+    // history, and copies it. What needs no place is not refused, and not copied, nor is a call that
+    // only looks. Refused memory changes nothing that is kept.
     pub(crate) fn ask(
         &mut self,
         pid: Pid,
@@ -133,7 +133,7 @@ impl Notes {
         ensures room { OnOk result (HasRoom self.new.recorder pid op.new) }
         ensures err { OnErr result (needed ≢ 0) }
     {
-        if needed == 0 {
+        if needed == 0 || is_look(op) {
             self.recorder.reserve(pid, op)?;
             return Ok(None);
         }

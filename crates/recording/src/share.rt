@@ -3,6 +3,7 @@ ghost use Rattle.std.specs.Prelude.{◌≡◌};
 
 use heap::Heap;
 use ids::{Bytes, Call, Op};
+use redo_records::only_looks;
 use std::mem::replace;
 
 // Has bytes stand where copies of them take no memory. Where memory for that is refused, they stay as
@@ -43,6 +44,14 @@ fn share_call(heap: Heap, call: &mut Call)
         Call::Chmod(path, _) => share_bytes(heap, path),
         Call::Chown(path, _) => share_bytes(heap, path),
         _ => {}
+    }
+}
+
+/// Whether an operation is a call that only looks, of which nothing is noted.
+pub(crate) fn is_look(op: &Op) -> bool {
+    match op {
+        Op::Call(call) => only_looks(call),
+        Op::Begin(_) | Op::End | Op::Abort { no_restart: _ } => false,
     }
 }
 
