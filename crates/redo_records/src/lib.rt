@@ -16,7 +16,7 @@ mod recorder;
 mod tests;
 mod transaction;
 
-pub use recorder::{Record, Recorder, Standing};
+pub use recorder::{Record, Recorder, Standing, only_looks};
 
 /// A call that is left out of the records changes nothing.
 /// Proved in `proofs/Looking.antt`.

@@ -53,8 +53,8 @@ pub struct Recorder {
     transactions: Transactions,
 }
 
-// Whether a call only looks.
-fn only_looks(call: &Call) -> bool
+/// Whether a call only looks: whatever it is answered, no record has it.
+pub fn only_looks(call: &Call) -> bool
     ensures { result ≡ only_looks call.now }
 {
     match call {
