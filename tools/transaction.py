@@ -24,7 +24,8 @@ def why(error):
 
 
 class Transaction:
-    """One transaction, which goes on until `end` or `remove`. `tree` is the path of the mounted tree."""
+    """One transaction, which goes on until `end` or `remove`, or until this process ends, however it does: whoever has its file open for
+    reading and writing holds it. `tree` is the path of the mounted tree."""
 
     # How many were asked for by this process: no two names are the same.
     asked = 0
@@ -33,11 +34,12 @@ class Transaction:
         self.tree, self.top = tree, os.path.join(tree, ".tx")
         ending = "" if priority is None else f".p{priority}"
         while True:
-            self.name = f"{prefix_of(os.getpid())}{Transaction.asked}{ending}"
+            self.name = f"run-{os.getpid()}-{Transaction.asked}{ending}"
             Transaction.asked += 1
             self.view = os.path.join(self.top, self.name)
             try:
-                os.mkdir(self.view)
+                # To make its file so begins it, and holds it in the same step.
+                self.held = os.open(self.view + ".ctl", os.O_RDWR | os.O_CREAT | os.O_EXCL)
                 break
             except FileExistsError:
                 # A process with this number, in another PID namespace.
@@ -45,7 +47,9 @@ class Transaction:
             except OSError as error:
                 raise NotBegun(self.reason(error)) from None
         if not self.state():
-            os.rmdir(self.view)
+            self.let_go()
+            # It is a file like any other.
+            os.unlink(self.view + ".ctl")
             raise NotBegun(f"{tree} is no mounted tree")
 
     def reason(self, error):
@@ -86,8 +90,18 @@ class Transaction:
         except OSError as error:
             raise Lost(self.lost() or f"its end was refused: {why(error)}") from None
 
+    def let_go(self):
+        """Holds it no more."""
+        os.close(self.held)
+
     def remove(self):
         """Gives it up, if it goes on, and takes the view away. Returns why that is not so, else None."""
+        try:
+            return self.remove_view()
+        finally:
+            self.let_go()
+
+    def remove_view(self):
         for turn in range(REMOVALS):
             try:
                 os.rmdir(self.view)
@@ -99,19 +113,3 @@ class Transaction:
             else:
                 return None
         return left
-
-
-def prefix_of(pid):
-    """Returns how the names of the views of a process begin."""
-    return f"run-{pid}-"
-
-
-def remove_of(tree, pid):
-    """Takes all views away that a process has left, which has ended."""
-    top = os.path.join(tree, ".tx")
-    for name in os.listdir(top) if os.path.isdir(top) else []:
-        if name.startswith(prefix_of(pid)) and not name.endswith(".ctl"):
-            try:
-                os.rmdir(os.path.join(top, name))
-            except OSError:
-                continue

@@ -19,7 +19,7 @@ ENDING, MASK = blocking.block()
 
 from inside import NotEnded, NotRun, NotStarted, become_reaper, die_with_parent, run, say
 from signals import BY_KERNEL, Interrupted, Signals
-from transaction import Lost, NotBegun, NotCompared, Transaction, remove_of, why
+from transaction import Lost, NotBegun, NotCompared, Transaction, why
 
 USAGE = "usage: ./txrun [OPTION..] DIR [COMMAND..]"
 HELP = f"""{USAGE}
@@ -368,7 +368,7 @@ def main(arguments):
             os._exit(status)
     status = pass_on(worker)
     if os.WIFSIGNALED(status):
-        remove_of(os.path.realpath(words.tree), worker)
+        # What it held was given up with it.
         return 128 + os.WTERMSIG(status)
     return os.WEXITSTATUS(status)
 

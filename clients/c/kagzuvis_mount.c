@@ -249,12 +249,10 @@ static void take_away(struct kagzuvis_mount_view *view)
 /* Opens what stands for a view that was made. Returns -1 with errno set. */
 static int open_view(struct kagzuvis_mount_view *view)
 {
-    char path[sizeof view->path + 4], text[8];
+    char text[8];
 
-    snprintf(path, sizeof path, "%s.ctl", view->path);
-    view->control = open(path, O_RDWR | O_CLOEXEC);
     /* As long as this is locked nobody takes the transaction for one that a dead process has left. */
-    if (view->control < 0 || flock(view->control, LOCK_SH | LOCK_NB) != 0)
+    if (flock(view->control, LOCK_SH | LOCK_NB) != 0)
         return -1;
     view->directory = open(view->path, O_PATH | O_DIRECTORY | O_CLOEXEC);
     return view->directory < 0 || pread(view->control, text, sizeof text, 0) < 0 ? -1 : 0;
@@ -267,9 +265,9 @@ static int open_view(struct kagzuvis_mount_view *view)
 static enum kagzuvis_mount_error make_view(struct kagzuvis_mount_view *view, const char *tree, int priority)
 {
     uint64_t number;
-    char *name = view->path + view->tree_length;
+    char *name = view->path + view->tree_length, control[sizeof view->path + 4];
     size_t room = sizeof view->path - view->tree_length;
-    int count, is_there;
+    int count, is_plain, failed;
 
     /* A name has 64 bits that are new each time, so no path of an older transaction leads into this one. */
     if (getentropy(&number, sizeof number) != 0)
@@ -277,14 +275,22 @@ static enum kagzuvis_mount_error make_view(struct kagzuvis_mount_view *view, con
     count = snprintf(name, room, "/.tx/" FRONT "%ld-%016" PRIx64, (long)view->owner, number);
     if (priority > 0)
         snprintf(name + count, room - (size_t)count, ".p%d", priority);
-    if (mkdir(view->path, 0777) != 0)
+    snprintf(control, sizeof control, "%s.ctl", view->path);
+    /* To make its file so begins the transaction, and holds it in the same step. */
+    view->control = open(control, O_RDWR | O_CREAT | O_EXCL | O_CLOEXEC, 0600);
+    if (view->control < 0)
         return errno == EEXIST ? TAKEN_AWAY : fault(errno, tree);
     if (open_view(view) == 0)
         return KAGZUVIS_MOUNT_OK;
-    is_there = view->control < 0 && errno == ENOENT && access(view->path, F_OK) == 0;
+    failed = errno;
+    is_plain = access(view->path, F_OK) != 0 && access(control, F_OK) == 0;
+    errno = failed;
     take_away(view);
-    if (is_there)
+    if (is_plain) {
+        /* It is a file like any other. */
+        unlink(control);
         return KAGZUVIS_MOUNT_NOT_MOUNTED;
+    }
     return errno == ENOENT || errno == EWOULDBLOCK ? TAKEN_AWAY : fault(errno, tree);
 }
 

@@ -345,6 +345,9 @@ static void test_what_is_left(void)
     char first[512] = "", second[512] = "";
 
     CHECK(WIFSIGNALED(status_of(fork_to(dies, NULL))));
+    await_views(0);
+    /* One that was made by hand is held by nobody. */
+    CHECK(mkdir(below(tree, ".tx/client-1-0"), 0777) == 0 && mkdir(below(tree, ".tx/client-1-0/half"), 0777) == 0);
     begin(&view);
     ANSWERS("OK", kagzuvis_mount_abandoned(tree, 0, note_name, first));
     CHECK(strncmp(first, "client-", 7) == 0 && views() == 2);

@@ -87,6 +87,16 @@ static int views(void)
     return names_in(below(tree, ".tx")) / 2;
 }
 
+/* Waits until so many views are there: what the dead have held goes when Linux tells of its close, which is soon. */
+static void await_views(int wanted)
+{
+    int turn;
+
+    for (turn = 0; turn < 10000 && views() != wanted; turn++)
+        usleep(1000);
+    CHECK(views() == wanted);
+}
+
 static void begin(struct kagzuvis_mount_view *view)
 {
     ANSWERS("OK", kagzuvis_mount_begin(view, tree, 0));

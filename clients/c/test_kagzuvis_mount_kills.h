@@ -45,7 +45,7 @@ static int by_moment(const void *one, const void *other)
     return (first->moment > second->moment) - (first->moment < second->moment);
 }
 
-/* Starts clients that install, and kills each at a moment of its own, or none where `most` is 0. */
+/* Starts clients that install, and kills each at a moment of its own, or none where `most` is 0. Nothing is left of their transactions. */
 static void kill_some(int first, double most)
 {
     struct killed all[AT_ONCE];
@@ -67,7 +67,7 @@ static void kill_some(int first, double most)
     }
     for (at = 0; at < AT_ONCE; at++)
         CHECK(status_of(all[at].child) == 0 || most > 0);
-    ANSWERS("OK", kagzuvis_mount_abandoned(tree, 1, NULL, NULL));
+    await_views(0);
 }
 
 /* Whether the folder of this number is there, and then it is whole; it is removed. */

@@ -10,7 +10,8 @@ run its body again, so a transaction that loses a conflict is told by Lost; `run
 In a block a call of the system that fails with ECANCELED says that the transaction has lost. Whatever the block makes of it, Lost is
 what leaves the block; the exception that the block raised is its __cause__.
 
-A transaction belongs to the process that began it. Where that forks, the child may work in the view, and ends nothing.
+A transaction belongs to the process that began it. Where that forks, the child may work in the view, and ends nothing. It holds the
+file of the transaction open for reading and writing; where it is killed, and no child of a fork is left, the transaction is given up.
 """
 import collections
 import contextvars
@@ -230,7 +231,8 @@ class View(os.PathLike):
         self.path = f"{self._tree}/.tx/{FRONT}{self._owner}-{os.urandom(8).hex()}{ending}"
         ends = []
         try:
-            os.mkdir(self.path)
+            # To make its file so begins the transaction, and holds it in the same step.
+            ends.append(os.open(self.path + ".ctl", os.O_RDWR | os.O_CREAT | os.O_EXCL))
             self._open(ends)
         except FileExistsError:
             return False
@@ -247,13 +249,14 @@ class View(os.PathLike):
 
     def _open(self, ends):
         try:
-            ends.append(os.open(self.path + ".ctl", os.O_RDWR))
             # As long as this is locked nobody takes the transaction for one that a dead process has left.
             fcntl.flock(ends[0], fcntl.LOCK_SH | fcntl.LOCK_NB)
             ends.append(os.open(self.path, os.O_PATH | os.O_DIRECTORY))
             os.pread(ends[0], STATE_LIMIT, 0)
         except (BlockingIOError, FileNotFoundError) as error:
-            if not ends and os.path.isdir(self.path):
+            if not os.path.lexists(self.path) and os.path.lexists(self.path + ".ctl"):
+                # It is a file like any other.
+                _try(os.unlink, self.path + ".ctl")
                 raise NotMounted(f"{self._tree} is no mounted tree") from error
             raise _TakenAway from error
 

@@ -32,6 +32,23 @@ def views():
     return [name for name in os.listdir(TREE / ".tx") if not name.endswith(".ctl")]
 
 
+def await_views(wanted):
+    """Waits until these views are there, and no others: what the dead have held goes when Linux tells of its close, which is soon."""
+    until = time.monotonic() + 10
+    while sorted(views()) != sorted(wanted):
+        if time.monotonic() > until:
+            raise AssertionError(f"there are {views()}, and not {wanted}")
+        time.sleep(0.001)
+
+
+def left_by_hand():
+    """Returns the name of a view as a client's that nobody holds."""
+    name = f"{kagzuvis_mount.FRONT}1-{os.urandom(8).hex()}"
+    (TREE / ".tx" / name).mkdir()
+    (TREE / ".tx" / name / "place" / "half").mkdir()
+    return name
+
+
 def fork(work, *given):
     """Returns the number of a child that does this; its status is 0 where it returns true."""
     child = os.fork()
@@ -367,7 +384,7 @@ class Faults(TestCase):
 
         # In a namespace of one's own there may be no other user.
         if "4294967295" in pathlib.Path("/proc/self/uid_map").read_text().split():
-            status_of(fork(die, "half"))
+            left_by_hand()
             self.assertEqual(status_of(fork(work)), 0)
             self.assertEqual(len(kagzuvis_mount.give_up_abandoned(TREE)), 1)
 
@@ -388,11 +405,43 @@ class Faults(TestCase):
 
 
 class Killed(TestCase):
-    def test_what_is_left_is_found_and_given_up(self):
-        status_of(fork(die, "half"))
+    def test_what_is_killed_leaves_nothing(self):
         with transaction(TREE) as tree:
-            left = [name for name in views() if name != os.path.basename(tree)]
-            self.assertEqual((1, left), (len(left), kagzuvis_mount.abandoned(TREE)))
+            self.assertEqual(status_of(fork(die, "half")), signal.SIGKILL)
+            await_views([os.path.basename(tree)])
+            self.assertEqual((kagzuvis_mount.abandoned(TREE), tree.state()), ([], LIVE))
+        self.assertEqual(os.listdir(self.place), [])
+
+    def test_a_child_of_a_fork_holds_it(self):
+        """Until both are gone. By then the child has committed what it did by the file itself."""
+
+        def parent():
+            owner, view = os.getpid(), transaction(TREE).__enter__()
+            (view / "place" / "file").mkdir()
+            if os.fork() == 0:
+                while os.getppid() == owner:
+                    time.sleep(0.001)
+                if os.pread(view._control, 10, 0) == b"live\n":
+                    os.write(view._control, b"end\n")
+                os._exit(0)
+            os.kill(os.getpid(), signal.SIGKILL)
+
+        heard, told = os.pipe()
+        child = os.fork()
+        if child == 0:
+            parent()
+        os.close(told)
+        self.assertEqual(status_of(child), signal.SIGKILL)
+        # It ends with the last one that has it open.
+        self.assertEqual(os.read(heard, 1), b"")
+        os.close(heard)
+        await_views([])
+        self.assertEqual(os.listdir(self.place), ["file"])
+
+    def test_what_is_left_is_found_and_given_up(self):
+        left = [left_by_hand()]
+        with transaction(TREE) as tree:
+            self.assertEqual(kagzuvis_mount.abandoned(TREE), left)
             self.assertEqual((kagzuvis_mount.give_up_abandoned(TREE), tree.state()), (left, LIVE))
             self.assertEqual(kagzuvis_mount.give_up_abandoned(TREE), [])
         self.assertEqual(os.listdir(self.place), [])
@@ -421,7 +470,7 @@ class Killed(TestCase):
         return True
 
     def kill(self, chance, names, most):
-        """Kills a client for each name, each at a moment of its own; its transaction is given up where it goes on."""
+        """Kills a client for each name, each at a moment of its own. Nothing is left of their transactions."""
         moments = []
         for name in names:
             child = fork(self.install, name)
@@ -431,7 +480,7 @@ class Killed(TestCase):
             os.kill(child, signal.SIGKILL)
         for _, child in moments:
             status_of(child)
-        kagzuvis_mount.give_up_abandoned(TREE)
+        await_views([])
 
     def test_each_is_whole_or_nothing(self):
         seed = random.SystemRandom().getrandbits(32)

@@ -278,8 +278,7 @@ fn control_of(path: &Path) -> PathBuf {
 }
 
 // Opens what stands for a view that was made. An error `NotFound` says that it was taken away at once, by somebody who saw no lock on it.
-fn open_view(path: &Path) -> io::Result<(File, File)> {
-    let control = OpenOptions::new().read(true).write(true).open(control_of(path))?;
+fn open_view(path: &Path, control: &File) -> io::Result<File> {
     // As long as this is locked nobody takes the transaction for one that a dead process has left.
     control.try_lock_shared().map_err(|error| match error {
         TryLockError::WouldBlock => io::Error::from(ErrorKind::NotFound),
@@ -287,7 +286,7 @@ fn open_view(path: &Path) -> io::Result<(File, File)> {
     })?;
     let place = open_place(path)?;
     control.read_at(&mut [0; 8], 0)?;
-    Ok((control, place))
+    Ok(place)
 }
 
 impl View {
@@ -303,19 +302,22 @@ impl View {
         }
         loop {
             let path = tree.join(".tx").join(new_name(priority));
-            match fs::create_dir(&path) {
+            // To make its file so begins the transaction, and holds it in the same step.
+            let control = match OpenOptions::new().read(true).write(true).create_new(true).open(control_of(&path)) {
                 Err(error) if error.kind() == ErrorKind::AlreadyExists => continue,
                 made => made.map_err(|error| fault(error, &tree))?,
-            }
-            match open_view(&path) {
-                Ok((control, place)) => {
+            };
+            match open_view(&path, &control) {
+                Ok(place) => {
                     BEGUN.with_borrow_mut(|begun| begun.push((owner, device)));
                     return Ok(View { path, tree, device, owner, control, place, is_over: false, _thread: PhantomData });
                 }
                 Err(error) => {
-                    let was_there = !control_of(&path).exists() && path.exists();
+                    let is_plain = control_of(&path).exists() && !path.exists();
                     let _taken = fs::remove_dir(&path);
-                    if was_there {
+                    if is_plain {
+                        // It is a file like any other.
+                        let _removed = fs::remove_file(control_of(&path));
                         return Err(Error::NotMounted(tree));
                     } else if error.kind() != ErrorKind::NotFound {
                         return Err(fault(error, &tree));

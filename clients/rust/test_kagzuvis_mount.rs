@@ -270,6 +270,9 @@ impl Tests {
 
     fn what_is_left(&self) -> io::Result<()> {
         assert_eq!(self.program(&["die"]).status()?.signal(), Some(6));
+        self.await_none()?;
+        // One that was made by hand is held by nobody.
+        fs::create_dir_all(self.tree.join(".tx/client-1-0/half"))?;
         let view = self.begin();
         let left = abandoned(&self.tree).expect("it is told");
         assert_eq!((left.len(), self.views()), (1, 2));
@@ -291,7 +294,8 @@ impl Tests {
         })
     }
 
-    // Starts clients that install, and kills each at a moment of its own, or none where there is no time for that.
+    // Starts clients that install, and kills each at a moment of its own, or none where there is no time for that. Nothing is left of their
+    // transactions.
     fn kill_some(&self, first: usize, most: Option<Duration>, chance: &mut Chance) -> io::Result<()> {
         let mut all: Vec<(Instant, Child)> = Vec::new();
         for name in first..first + AT_ONCE {
@@ -306,7 +310,17 @@ impl Tests {
         for (_, child) in &mut all {
             assert!(child.wait()?.success() || most.is_some());
         }
-        give_up_abandoned(&self.tree).map(|_names| ()).map_err(io::Error::other)
+        self.await_none()
+    }
+
+    // Waits until no view is there: what the dead have held goes when Linux tells of its close, which is soon.
+    fn await_none(&self) -> io::Result<()> {
+        let until = Instant::now() + Duration::from_secs(10);
+        while self.views() != 0 && Instant::now() < until {
+            thread::sleep(Duration::from_millis(1));
+        }
+        assert_eq!(self.views(), 0);
+        Ok(())
     }
 
     fn kills(&self) -> io::Result<()> {

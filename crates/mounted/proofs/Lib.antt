@@ -16,3 +16,4 @@ mod Outcomes
 mod Apart
 mod Setting
 mod Room
+mod Holding

@@ -1,5 +1,6 @@
 pub mod Controls
 pub mod First
+pub mod Holding
 pub mod Room
 pub mod Served
 pub mod Server

@@ -12,6 +12,7 @@ use Rattle.machine.specs.Shown.{Kept, Shown, limit_of, setup_of}
 use Rattle.nodes.specs.Tables.{Table}
 use Rattle.mount_tables.specs.FileKeys.{key_cmp}
 use Rattle.mount_tables.specs.Folders.{Opened}
+use Rattle.mount_tables.specs.Numbers.{class_of}
 use Rattle.mount_tables.specs.declared.open_files.OpenFile.{OpenFile}
 use Rattle.mount_tables.specs.declared.processes.Role.{Role}
 use Rattle.mount_tables.specs.declared.views.View.{View}
@@ -21,12 +22,12 @@ use Rattle.mount_requests.specs.Seen.{Seen}
 use Rattle.mount_requests.specs.Times.{at_time}
 use Rattle.mount_requests.specs.declared.requests.Caller.{Caller}
 use Rattle.mount_requests.specs.declared.tables.Tables.{Tables}
-use Rattle.mounted.specs.Served.{IsServed}
-use Rattle.mounted.specs.Sound.{IsSound}
+use Rattle.mounted.specs.Holding.{Held, ServesHeld}
+use Rattle.mounted.specs.Sound.{IsSound, StaysSound}
 use Rattle.mounted.specs.Steppers.{StaysInView, TimesStayInView, is_release}
 
 -- What is kept beside the kernel: what is seen of it (mount_requests/specs/Seen.antt), where times stand
--- as they are kept, in maps.
+-- as they are kept, in maps; and who holds transactions.
 pub record Beside : Type 0 where
   pub nodes : Table
   pub files : map.FinMap nat_cmp OpenFile
@@ -40,9 +41,10 @@ pub record Beside : Type 0 where
   pub roles : map.FinMap nat_cmp Role
   pub times : Times
   pub time : Time
+  pub holders : Held
 
-abbrev pub beside_of : Tables → Beside
-beside_of t = record {
+abbrev pub beside_of : Tables → Held → Beside
+beside_of t held = record {
   nodes = t.nodes.table;
   files = t.files.each;
   handles = t.files.handles;
@@ -55,6 +57,7 @@ beside_of t = record {
   roles = t.processes.roles;
   times = t.times;
   time = t.time;
+  holders = held;
 }
 
 -- what is kept beside the kernel, and the kernel
@@ -89,6 +92,13 @@ pub record HasGrown (old new : Shown) : Type 0 where
   pub more : List Entry
   pub is : new.log.entries ≡ old.log.entries ++ more
 
+-- What each request keeps, whichever it is.
+pub record Lasts (s later : Seen) (old new : Shown) : Type 0 where
+  pub kept : Kept new
+  pub serial : IsSerializable 0 (setup_of new.log) (limit_of new.log) new.log.entries new.state
+  pub grows : HasGrown old new
+  pub sound : StaysSound s old later new
+
 -- All that holds where a request was served, at some time.
 pub record HasServed (old new : Served) (request : Request) (reply : Option Reply) : Type 0 where
   pub now : Time
@@ -101,5 +111,6 @@ pub record HasServed (old new : Served) (request : Request) (reply : Option Repl
       → StaysInView (seen_in old) request.node old.shown.log.entries new.shown.log.entries
   pub times : is_release request.operation ≡ false
       → TimesStayInView (seen_in old) (seen_in new) request.node
-  pub served : IsServed (at_time now (seen_in old)) (seen_in new) (caller_of request)
-      request.operation old.shown new.shown reply
+  pub served : ServesHeld (class_of request.node) (at_time now (seen_in old)) (seen_in new)
+      old.beside.holders new.beside.holders (caller_of request) request.operation
+      old.shown new.shown reply

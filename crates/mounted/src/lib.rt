@@ -7,6 +7,8 @@
 #![tactic(auto)]
 
 mod control;
+mod holders;
+mod holding;
 mod processes;
 mod releasing;
 mod server;

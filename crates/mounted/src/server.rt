@@ -4,15 +4,17 @@ ghost use Rattle.ids.specs.declared.limits.TheConstants.{LARGEST_FILE, MAX_ENTRI
 ghost use Rattle.machine.specs.Shown.{Kept, limit_of, setup_of};
 ghost use Rattle.history_laws.specs.Headline.{IsSerializable};
 ghost use Rattle.fuse.specs.Operations.{is_answered};
+ghost use Rattle.model.specs.FiniteMap as map;
+ghost use Rattle.mount_tables.specs.Numbers.{class_of};
 ghost use Rattle.mount_requests.specs.Seen.{IsUnknown};
 ghost use Rattle.mount_requests.specs.Times.{at_time};
 ghost use Rattle.mounted.specs.First.{IsFirst};
-ghost use Rattle.mounted.specs.Served.{IsServed};
+ghost use Rattle.mounted.specs.Holding.{ServesHeld};
 ghost use Rattle.mounted.specs.Server.{HasGrown, caller_of, seen_in};
 ghost use Rattle.mounted.specs.Sound.{IsSound};
 ghost use Rattle.mounted.specs.Steppers.{StaysInView, TimesStayInView, is_release};
 
-use crate::serving::Serving;
+use crate::holding::Holding;
 use fuse::{Reply, Request, Time};
 use heap::Heap;
 use ids::{Limits, Owner, Priority};
@@ -26,12 +28,12 @@ use std::marker::Model;
 /// what is known, and the kernel. Each process has one role at most: to wait for a transaction, to have
 /// files of the plain tree open, or to serve one view, with the view's priority in the kernel.
 pub struct Server<K: Machine> {
-    serving: Serving<K>,
+    holding: Holding<K>,
 }
 
 impl<K: Machine> Drop for Server<K> {
     fn drop(self) {
-        let Server { serving: _ } = self;
+        let Server { holding: _ } = self;
     }
 }
 
@@ -43,11 +45,11 @@ impl<K: Machine> Model for Server<K> {
     ghost Value = { Served };
 
     ghost view = { λ s. record {
-      beside = beside_of s.serving.tables;
-      shown = s.serving.hand.shown;
+      beside = beside_of s.holding.serving.tables s.holding.holders.rows;
+      shown = s.holding.serving.hand.shown;
     } };
 
-    ghost invariant = { λ s. IsSound (seen s.serving.tables) s.serving.hand.shown };
+    ghost invariant = { λ s. IsSound (seen s.holding.serving.tables) s.holding.serving.hand.shown };
 }
 
 // A priority that there is.
@@ -92,10 +94,11 @@ impl<K: Machine> Server<K> {
         ensures kept { IfOk result (λ s. Kept s.shown) }
         ensures first { IfOk result (λ s. IsFirst limits s.shown) }
         ensures unknown { IfOk result (λ s. IsUnknown (seen_in s)) }
+        ensures unheld { IfOk result (λ s. s.beside.holders ≡ map.empty) }
     {
         let kernel = kernel_with(heap, limits)?;
         Ok(Server {
-            serving: Serving::new(heap, kernel),
+            holding: Holding::new(heap, kernel),
         })
     }
 
@@ -103,8 +106,9 @@ impl<K: Machine> Server<K> {
     /// is so for what is forgotten and for the wish that a request ends early. The kernel's history stays
     /// legal and strictly serializable, and only grows. Each request is served by its definition: by
     /// which process, by which steps, what its reply tells, and what is known then of nodes, open files,
-    /// transactions and times; all else stands. A time before that of an earlier request is taken for
-    /// that one. For a request about a node below a view only the process of its transaction steps, while
+    /// transactions and times; all else stands. Who has the file of a transaction open for reading and
+    /// writing holds it, and with the last one its view is taken away. A time before that of an earlier
+    /// request is taken for that one. For a request about a node below a view only the process of its transaction steps, while
     /// that goes on, and nothing is done where it does not; and what it does to times is seen in no other
     /// view.
     pub fn serve(&mut self, request: Request, now: Time) -> Option<Reply>
@@ -117,7 +121,8 @@ impl<K: Machine> Server<K> {
         ensures in_view { is_release request.operation ≡ false
             → StaysInView (seen_in self.old) request.node
             self.old.shown.log.entries self.new.shown.log.entries }
-        ensures served { IsServed (at_time now (seen_in self.old)) (seen_in self.new)
+        ensures served { ServesHeld (class_of request.node) (at_time now (seen_in self.old))
+            (seen_in self.new) self.old.beside.holders self.new.beside.holders
             (caller_of request) request.operation self.old.shown self.new.shown result }
         ensures times { is_release request.operation ≡ false
             → TimesStayInView (seen_in self.old) (seen_in self.new) request.node }
@@ -137,7 +142,7 @@ impl<K: Machine> Server<K> {
                 group: gid,
             },
         };
-        self.serving.tables.set_time(now);
-        self.serving.serve(caller, operation)
+        self.holding.serving.tables.set_time(now);
+        self.holding.serve(caller, operation)
     }
 }

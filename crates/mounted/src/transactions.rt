@@ -29,7 +29,7 @@ use mount_tables::{
 use std::alloc::AllocError;
 
 // What stands before the end of the name of a file by which a transaction is ended.
-fn control_name(name: &[u8]) -> Option<&[u8]>
+pub(crate) fn control_name(name: &[u8]) -> Option<&[u8]>
     ensures { option_map (λ front. front.now) result ≡ control_of name.now }
 {
     if name.ends_with(b".ctl".as_slice()) {
@@ -80,7 +80,7 @@ fn names_of_transactions(tables: &Tables) -> Result<NameList, AllocError> {
 }
 
 // What is told of a node that is no object of the kernel.
-fn entry_of_node(tables: &Tables, node: u64) -> Entry
+pub(crate) fn entry_of_node(tables: &Tables, node: u64) -> Entry
     ensures node { result.node ≡ node }
     ensures attr { IsOfNode node (is_some (view_of node)) (seen tables.now).time result.attr }
 {
