@@ -209,6 +209,64 @@ read /.tx/v.ctl",
     },
 ];
 
+static HELD: [Row; 8] = [
+    Row {
+        before: "",
+        ask: "create /.tx/v.ctl",
+        is_refused: true,
+    },
+    Row {
+        before: "create /.tx/v.ctl
+release /.tx/v.ctl",
+        ask: "create /.tx/v.p3.ctl",
+        is_refused: true,
+    },
+    Row {
+        before: "mkdir /.tx/v",
+        ask: "open /.tx/v.ctl",
+        is_refused: true,
+    },
+    Row {
+        before: "create /.tx/v.ctl",
+        ask: "open /.tx/v.ctl",
+        is_refused: false,
+    },
+    Row {
+        before: "mkdir /.tx/v
+create /.tx/v/a
+write /.tx/v/a first
+open /.tx/v.ctl",
+        ask: "release /.tx/v.ctl",
+        is_refused: false,
+    },
+    Row {
+        before: "mkdir /.tx/v
+create /.tx/v/a
+write /.tx/v.ctl end
+open /.tx/v.ctl",
+        ask: "release /.tx/v.ctl",
+        is_refused: false,
+    },
+    Row {
+        before: "create /.tx/v.ctl
+open /.tx/v.ctl",
+        ask: "release /.tx/v.ctl",
+        is_refused: false,
+    },
+    Row {
+        before: "create /.tx/v.ctl
+rmdir /.tx/v",
+        ask: "create /.tx/v.ctl",
+        is_refused: true,
+    },
+];
+
+#[test]
+fn transactions_that_are_held(rt: HostRuntime) {
+    let heap = heap::open(rt.alloc()).expect(&rt, "memory");
+    check_all::<Kernel>(&rt, heap, &HELD);
+}
+
 #[test]
 fn transactions_that_are_begun_or_listed(rt: HostRuntime) {
     let heap = heap::open(rt.alloc()).expect(&rt, "memory");

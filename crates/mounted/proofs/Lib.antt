@@ -16,4 +16,5 @@ mod Outcomes
 mod Apart
 mod Setting
 mod Room
+mod Names
 mod Holding

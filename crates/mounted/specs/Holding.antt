@@ -24,6 +24,10 @@ use Rattle.mounted.specs.declared.holding.Asked.TheVariants as asks
 abbrev pub Held : Type 0
 Held = map.FinMap nat_cmp Holder
 
+-- no view is held
+abbrev pub IsUnheld : Held → Type 0
+IsUnheld h = h ≡ map.empty
+
 -- so many open files hold a view, if it is held
 abbrev pub with_opens : ℕ → ℕ → Option Holder → Held → Held
 with_opens view opens None h = h

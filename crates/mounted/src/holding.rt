@@ -8,7 +8,8 @@ ghost use Rattle.fuse.specs.Operations.{is_answered};
 ghost use Rattle.mount_tables.specs.Numbers.{class_of};
 ghost use Rattle.mount_requests.specs.Seen.{IsUnknown, seen};
 ghost use Rattle.mounted.specs.declared.holders.Holder.{Holder};
-ghost use Rattle.mounted.specs.Holding.{BeginsHeld, EndsBy, Holds, HoldsBegun, HoldsFirst, IsNamed, LetsGo};
+ghost use Rattle.mounted.specs.Holding.{BeginsHeld, EndsBy, Holds, HoldsBegun, HoldsFirst, IsNamed};
+ghost use Rattle.mounted.specs.Holding.{IsUnheld, LetsGo};
 ghost use Rattle.mounted.specs.Holding.{ServesFile, ServesHeld, ServesNew, asked_of, begun_by, begun_view};
 ghost use Rattle.mounted.specs.Holding.{is_holding, leads_to};
 ghost use Rattle.mounted.specs.Served.{told};
@@ -90,18 +91,6 @@ fn begun_by(operation: &Operation) -> Option<&[u8]>
     }
 }
 
-// A copy of the name of a view.
-fn name_of(tables: &Tables, view: u64) -> Result<Option<Bytes>, AllocError>
-    ensures { IfOk result (λ name. IsNamed (seen tables.now) view name) }
-{
-    for (name, number) in tables.views.numbers().iter() {
-        if *number == view {
-            return Ok(Some(Bytes::copy(tables.heap, name.as_slice())?));
-        }
-    }
-    Ok(None)
-}
-
 // Whether a name leads to a view.
 fn leads_to(tables: &Tables, name: &[u8], view: u64) -> bool
     ensures { result ≡ leads_to view (map.get (seen tables.now).names name.now) }
@@ -110,6 +99,18 @@ fn leads_to(tables: &Tables, name: &[u8], view: u64) -> bool
         Some(number) => number == view,
         None => false,
     }
+}
+
+// A copy of the name of a view.
+fn name_of(tables: &Tables, view: u64) -> Result<Option<Bytes>, AllocError>
+    ensures { IfOk result (λ name. IsNamed (seen tables.now) view name) }
+{
+    for (name, _number) in tables.views.numbers().iter() {
+        if leads_to(tables, name.as_slice(), view) {
+            return Ok(Some(Bytes::copy(tables.heap, name.as_slice())?));
+        }
+    }
+    Ok(None)
 }
 
 // Whether more than one open file holds a view.
@@ -160,7 +161,7 @@ impl<K: Machine> Holding<K> {
         requires { Kept (K.shown kernel) }
         ensures shown { result.serving.hand.shown ≡ K.shown kernel }
         ensures unknown { IsUnknown (seen result.serving.tables) }
-        ensures unheld { result.holders.rows ≡ map.empty }
+        ensures unheld { IsUnheld result.holders.rows }
     {
         Holding {
             serving: Serving::new(heap, kernel),
@@ -186,6 +187,7 @@ impl<K: Machine> Holding<K> {
         requires { 0 < self.old.holders.room }
         ensures begun { HoldsBegun (begun_view made (map.get (seen self.old.serving.tables).names name))
             made self.old.holders.rows self.new.holders.rows name result }
+        ensures answered { is_some made ≡ true → is_some result ≡ true }
         ensures hand { self.new.serving.hand ≡ self.old.serving.hand }
         ensures seen { seen self.new.serving.tables ≡ seen self.old.serving.tables }
     {

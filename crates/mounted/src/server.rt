@@ -4,12 +4,11 @@ ghost use Rattle.ids.specs.declared.limits.TheConstants.{LARGEST_FILE, MAX_ENTRI
 ghost use Rattle.machine.specs.Shown.{Kept, limit_of, setup_of};
 ghost use Rattle.history_laws.specs.Headline.{IsSerializable};
 ghost use Rattle.fuse.specs.Operations.{is_answered};
-ghost use Rattle.model.specs.FiniteMap as map;
 ghost use Rattle.mount_tables.specs.Numbers.{class_of};
 ghost use Rattle.mount_requests.specs.Seen.{IsUnknown};
 ghost use Rattle.mount_requests.specs.Times.{at_time};
 ghost use Rattle.mounted.specs.First.{IsFirst};
-ghost use Rattle.mounted.specs.Holding.{ServesHeld};
+ghost use Rattle.mounted.specs.Holding.{IsUnheld, ServesHeld};
 ghost use Rattle.mounted.specs.Server.{HasGrown, caller_of, seen_in};
 ghost use Rattle.mounted.specs.Sound.{IsSound};
 ghost use Rattle.mounted.specs.Steppers.{StaysInView, TimesStayInView, is_release};
@@ -94,7 +93,7 @@ impl<K: Machine> Server<K> {
         ensures kept { IfOk result (λ s. Kept s.shown) }
         ensures first { IfOk result (λ s. IsFirst limits s.shown) }
         ensures unknown { IfOk result (λ s. IsUnknown (seen_in s)) }
-        ensures unheld { IfOk result (λ s. s.beside.holders ≡ map.empty) }
+        ensures unheld { IfOk result (λ s. IsUnheld s.beside.holders) }
     {
         let kernel = kernel_with(heap, limits)?;
         Ok(Server {

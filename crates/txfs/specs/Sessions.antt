@@ -6,6 +6,7 @@ use Rattle.fuse.specs.declared.request.Request.{Request}
 use Rattle.session.specs.Sessions.{GoesOn}
 use Rattle.mount_requests.specs.Seen.{IsUnknown}
 use Rattle.mounted.specs.First.{IsFirst}
+use Rattle.mounted.specs.Holding.{IsUnheld}
 use Rattle.mounted.specs.Server.{HasServed, Served, seen_in}
 
 -- a request was served by a mounted tree
@@ -20,4 +21,5 @@ pub record IsSession (limits : Limits)
   pub last : Served
   pub is_first : IsFirst limits first.shown
   pub is_unknown : IsUnknown (seen_in first)
+  pub is_unheld : IsUnheld first.beside.holders
   pub goes_on : GoesOn served_by first last heard_before heard_after said_before said_after

@@ -6,5 +6,6 @@ returns-clause-session g c = record {
   last = c.serve_in.new.server;
   is_first = c.in_ok-server.ensures.first;
   is_unknown = c.in_ok-server.ensures.unknown;
+  is_unheld = c.in_ok-server.ensures.unheld;
   goes_on = c.serve_in.ensures;
 }
