@@ -17,7 +17,7 @@ use Rattle.mount_tables.specs.declared.numbers.Class.TheVariants.{Tree, Transact
 use Rattle.mount_requests.specs.Seen.{Seen}
 use Rattle.mount_requests.specs.declared.requests.Caller.{Caller}
 use Rattle.mounted.specs.Controls.{number_in}
-use Rattle.mounted.specs.Holding.{BeginsHeld, EndsBy, Held, Holds, HoldsBegun, HoldsFirst, LetsGo, LetsGoBy, ShowsHeld, asked_of, begun_by, begun_view, leads_to, with_opens}
+use Rattle.mounted.specs.Holding.{BeginsHeld, EndsBy, Held, Holds, HoldsBegun, HoldsFirst, LetsGo, LetsGoBy, ShowsHeld, ShowsMade, asked_of, begun_by, begun_view, leads_to, with_opens}
 use Rattle.mounted.specs.Holding.BeginsHeld.{NoRoom, Tried}
 use Rattle.mounted.specs.Served.{IsServed}
 use Rattle.mounted.specs.Server.{HasGrown, Lasts}
@@ -74,6 +74,13 @@ module _ {s t later known : Seen} {u v w x : Shown} (from : t ≡ s) (at : v ≡
 -- memory was refused before
 pub begins_refused : {s later : Seen} {h k : Held} {who : Caller} {name : List ℕ} {u v : Shown} → v ≡ u → later ≡ s → k ≡ h → BeginsHeld s later h k who name u v (Some (reply.Error errno.ENOMEM))
 begins_refused same known held = NoRoom (same, known, held, refl)
+
+-- what was begun is held
+pub begun_here : {made r : Option Reply} {h k : Held} {name : List ℕ} {o : Option ℕ} (view : ℕ) → Some view ≡ o → k ≡ map.insert h view (record { name = name; opens = 1 }) → ShowsMade view r → HoldsBegun o made h k name r
+begun_here {made} {r} {h} {k} {name} view is held shows = subst (λ (p : Option ℕ). HoldsBegun p made h k name r) is (held, shows)
+
+pub not_begun : {made : Option Reply} {h k : Held} {name : List ℕ} {o : Option ℕ} → None ≡ o → k ≡ h → HoldsBegun o made h k name made
+not_begun {made} {h} {k} {name} is held = subst (λ (p : Option ℕ). HoldsBegun p made h k name made) is (held, refl)
 
 -- ---- a view that is held, or let go
 
