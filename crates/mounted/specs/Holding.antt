@@ -1,6 +1,6 @@
 -- Who holds a transaction: the open files by which it ends with who has them open.
 use Rattle.std.specs.Prelude.{◌≡◌, ◌≢◌, ℕ, ◌-◌, ◌+◌, ◌%◌, ◌==◌, ◌^◌, min, nat_lt}
-use Rattle.std.specs.Prelude.{List, Bool, true, false, Option, Some, None, if◌then◌else◌}
+use Rattle.std.specs.Prelude.{List, codes, Bool, true, false, Option, Some, None, is_some, if◌then◌else◌}
 use Rattle.std.specs.Ordering.{nat_cmp}
 use Rattle.model.specs.FiniteMap as map
 use Rattle.fuse.specs.declared.errno.Errno.TheVariants as errno
@@ -19,6 +19,10 @@ use Rattle.mounted.specs.Served.{IsServed}
 use Rattle.mounted.specs.declared.holders.Holder.{Holder}
 use Rattle.mounted.specs.declared.holding.Asked.{Asked}
 use Rattle.mounted.specs.declared.holding.Asked.TheVariants as asks
+use Rattle.mounted.specs.declared.holding.Sought.{Sought}
+use Rattle.mounted.specs.declared.holding.Sought.TheVariants as seeks
+use Rattle.nodes.specs.declared.nodes.TheConstants.{LAST_NUMBER}
+use Rattle.std.specs.Str.{bytes_eq}
 
 -- who holds each view that is held
 abbrev pub Held : Type 0
@@ -51,6 +55,27 @@ asked_of _ = asks.Other
 abbrev pub begun_by : Operation → Option (List ℕ)
 begun_by (asked.Create name flags mode how) = if is_holding flags then control_of name else None
 begun_by _ = None
+
+-- ---- the file that tells what goes on
+
+-- its name in the directory of transactions, which no transaction has
+abbrev pub is_status : List ℕ → Bool
+is_status name = bytes_eq name (codes "status")
+
+-- its node, which is that of no view
+abbrev pub status_node : ℕ
+status_node = LAST_NUMBER + 1
+
+abbrev pub sought_by : Operation → Sought
+sought_by (asked.Lookup name) = if is_status name then seeks.Status else seeks.Other
+sought_by (asked.MkDir name mode) = if is_status name then seeks.ItsName else seeks.Other
+sought_by _ = seeks.Other
+
+-- whether it is read, or asked for its attributes: what is told then no definition says
+abbrev pub is_shown : Operation → Bool
+is_shown (asked.Read handle offset size flags) = true
+is_shown (asked.GetAttr handle) = true
+is_shown _ = false
 
 -- ---- what they do
 
@@ -142,16 +167,40 @@ pub data BeginsHeld (s later : Seen) (h known : Held) (who : Caller) (name : Lis
 
 -- ---- all requests
 
+-- nothing is done, and something is told
+abbrev pub Tells : Seen → Seen → Held → Held → Shown → Shown → Option Reply → Type 0
+Tells s later h known old new r = (new ≡ old) × (later ≡ s) × (known ≡ h) × (is_some r ≡ true)
+
+abbrev pub ShowsStatus : Option Reply → Type 0
+ShowsStatus (Some (reply.Entry entry)) = entry.node ≡ status_node
+ShowsStatus _ = ⊥
+
 -- one that holds nothing and lets nothing go
 abbrev pub ServesElse : Seen → Seen → Held → Held → Caller → Operation → Shown → Shown → Option Reply → Type 0
 ServesElse s later h known who operation old new r =
     IsServed s later who operation old new r × (known ≡ h)
 
+abbrev pub ServesAbout : Sought → Seen → Seen → Held → Held → Caller → Operation → Shown → Shown
+    → Option Reply → Type 0
+ServesAbout seeks.Status s later h known who operation old new r =
+    (new ≡ old) × (later ≡ s) × (known ≡ h) × ShowsStatus r
+ServesAbout seeks.ItsName s later h known who operation old new r =
+    Leaves (reply.Error errno.EEXIST) s later h known old new r
+ServesAbout seeks.Other s later h known who operation old new r =
+    ServesElse s later h known who operation old new r
+
+abbrev pub ServesNamed : Bool → List ℕ → Seen → Seen → Held → Held → Caller → Shown → Shown → Option Reply
+    → Type 0
+ServesNamed true name s later h known who old new r =
+    Leaves (reply.Error errno.EEXIST) s later h known old new r
+ServesNamed false name s later h known who old new r = BeginsHeld s later h known who name old new r
+
 abbrev pub ServesNew : Option (List ℕ) → Seen → Seen → Held → Held → Caller → Operation → Shown → Shown
     → Option Reply → Type 0
 ServesNew (Some name) s later h known who operation old new r =
-    BeginsHeld s later h known who name old new r
-ServesNew None s later h known who operation old new r = ServesElse s later h known who operation old new r
+    ServesNamed (is_status name) name s later h known who old new r
+ServesNew None s later h known who operation old new r =
+    ServesAbout (sought_by operation) s later h known who operation old new r
 
 abbrev pub ServesFile : Asked → Seen → Seen → Held → Held → Caller → ℕ → Operation → Shown → Shown
     → Option Reply → Type 0
@@ -162,6 +211,19 @@ ServesFile asks.LetGo s later h known who view operation old new r =
 ServesFile asks.Other s later h known who view operation old new r =
     ServesElse s later h known who operation old new r
 
+abbrev pub ServesStatus : Bool → Seen → Seen → Held → Held → Caller → Operation → Shown → Shown
+    → Option Reply → Type 0
+ServesStatus true s later h known who operation old new r = Tells s later h known old new r
+ServesStatus false s later h known who operation old new r =
+    ServesElse s later h known who operation old new r
+
+abbrev pub ServesControl : Bool → Seen → Seen → Held → Held → Caller → ℕ → Operation → Shown → Shown
+    → Option Reply → Type 0
+ServesControl true s later h known who view operation old new r =
+    ServesStatus (is_shown operation) s later h known who operation old new r
+ServesControl false s later h known who view operation old new r =
+    ServesFile (asked_of operation) s later h known who view operation old new r
+
 abbrev pub ServesHeld : Class → Seen → Seen → Held → Held → Caller → Operation → Shown → Shown → Option Reply
     → Type 0
 ServesHeld Tree s later h known who operation old new r =
@@ -169,4 +231,4 @@ ServesHeld Tree s later h known who operation old new r =
 ServesHeld Transactions s later h known who operation old new r =
     ServesNew (begun_by operation) s later h known who operation old new r
 ServesHeld (Control view) s later h known who operation old new r =
-    ServesFile (asked_of operation) s later h known who view operation old new r
+    ServesControl (view == 0) s later h known who view operation old new r

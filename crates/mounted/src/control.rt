@@ -97,7 +97,7 @@ fn size_of(bytes: &[u8]) -> u32
 }
 
 // So many bytes from an offset on.
-fn part_of(text: &[u8], offset: u64, size: u32) -> &[u8]
+pub(crate) fn part_of(text: &[u8], offset: u64, size: u32) -> &[u8]
     ensures { result.now ≡ take size (drop offset text.now) }
 {
     let first = usize::try_from(offset).unwrap_or(usize::MAX);
@@ -132,7 +132,7 @@ fn abort_text(heap: Heap, why: &Why) -> Result<Vec<u8, Heap>, AllocError>
 }
 
 // What the file tells of a transaction.
-fn text_by(heap: Heap, state: &State) -> Result<Vec<u8, Heap>, AllocError>
+pub(crate) fn text_by(heap: Heap, state: &State) -> Result<Vec<u8, Heap>, AllocError>
     ensures { IfOk result (λ text. text.items ≡ text_by state.now) }
 {
     match state {

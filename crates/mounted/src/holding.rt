@@ -19,6 +19,8 @@ ghost use Rattle.mounted.specs.Steppers.{StaysInView, TimesStayInView, is_releas
 
 use crate::holders::Holders;
 use crate::serving::{Serving, reply_of};
+use crate::status::{STATUS, read_status, status_attr};
+use crate::tallies::{Ending, Tallies};
 use crate::transactions::{control_name, entry_of_node};
 use fuse::bits::OPENED_DIRECT;
 use fuse::{Errno, Opened, Operation, Reply};
@@ -26,7 +28,7 @@ use heap::Heap;
 use ids::Bytes;
 use machine::Machine;
 use mount_requests::{Caller, Failure, Tables};
-use mount_tables::{Class, TRANSACTIONS, class_of, control_node};
+use mount_tables::{Class, PLAIN, State, TRANSACTIONS, class_of, control_node, view_of};
 use std::alloc::AllocError;
 
 // The number of an open file that holds a transaction. Others of its file have 0.
@@ -38,6 +40,68 @@ enum Asked {
     Hold,
     LetGo,
     Other,
+}
+
+// What a request asks of the directory of transactions: to find the file `status`, to give a transaction its
+// name, or else.
+#[derive(Clone, Copy, Debug)]
+enum Sought {
+    Status,
+    ItsName,
+    Other,
+}
+
+// The name of the file that tells what goes on.
+fn is_status(name: &[u8]) -> bool
+    ensures { result ≡ is_status name.now }
+{
+    name == b"status".as_slice()
+}
+
+// What a request asks of the directory of transactions.
+fn sought_by(operation: &Operation) -> Sought
+    ensures { result ≡ sought_by operation.now }
+{
+    match operation {
+        Operation::Lookup { name } => {
+            if is_status(name.as_slice()) {
+                Sought::Status
+            } else {
+                Sought::Other
+            }
+        }
+        Operation::MkDir { name, mode: _ } => {
+            if is_status(name.as_slice()) {
+                Sought::ItsName
+            } else {
+                Sought::Other
+            }
+        }
+        _ => Sought::Other,
+    }
+}
+
+// The view that a request in the directory of transactions takes away, and what becomes of its transaction.
+fn leaving_by(tables: &Tables, operation: &Operation) -> Option<(u64, Ending)> {
+    let Operation::RmDir { name } = operation else {
+        return None;
+    };
+    let number = tables.views.named(name.as_slice())?;
+    let view = tables.views.get(number)?;
+    let ending = match &view.state {
+        State::Committed => Ending::Committed,
+        State::Aborted(_) => Ending::Lost,
+        State::Live | State::GivenUp => Ending::GivenUp,
+    };
+    Some((number, ending))
+}
+
+// Whether a request may begin a transaction.
+fn is_begin(operation: &Operation) -> bool {
+    match operation {
+        Operation::MkDir { name: _, mode: _ } => true,
+        _ => false,
+    }
 }
 
 // Whether an open is for reading and writing: O_RDWR among O_ACCMODE.
@@ -144,6 +208,7 @@ fn opened() -> Opened
 pub(crate) struct Holding<K: Machine> {
     pub(crate) serving: Serving<K>,
     pub(crate) holders: Holders,
+    pub(crate) tallies: Tallies,
 }
 
 impl<K: Machine> Drop for Holding<K> {
@@ -151,6 +216,7 @@ impl<K: Machine> Drop for Holding<K> {
         let Holding {
             serving: _,
             holders: _,
+            tallies: _,
         } = self;
     }
 }
@@ -166,7 +232,71 @@ impl<K: Machine> Holding<K> {
         Holding {
             serving: Serving::new(heap, kernel),
             holders: Holders::new(heap),
+            tallies: Tallies::new(heap),
         }
+    }
+
+    // What a request in the directory of transactions has come to is counted.
+    fn note_view(&mut self, leaving: Option<(u64, Ending)>, begins: bool, reply: &Option<Reply>)
+        ensures hand { self.new.serving ≡ self.old.serving }
+        ensures held { self.new.holders ≡ self.old.holders }
+    {
+        match reply {
+            Some(Reply::Empty) => {
+                if let Some((view, ending)) = leaving {
+                    self.tallies.end(view, ending);
+                }
+            }
+            Some(Reply::Entry(entry)) => {
+                if let Some(view) = view_of(entry.node) {
+                    if begins {
+                        self.tallies.begin(view, self.serving.tables.time);
+                    }
+                }
+            }
+            _ => {}
+        }
+    }
+
+    // A request in the directory of transactions is served, and what it comes to is counted.
+    fn serve_counted(&mut self, caller: Caller, operation: Operation) -> Option<Reply>
+        ensures served { IsServed (seen self.old.serving.tables) (seen self.new.serving.tables) caller operation
+            self.old.serving.hand.shown self.new.serving.hand.shown result }
+        ensures lasts { Lasts (seen self.old.serving.tables) (seen self.new.serving.tables)
+            self.old.serving.hand.shown self.new.serving.hand.shown }
+        ensures held { self.new.holders ≡ self.old.holders }
+        ensures answered { is_some result ≡ is_answered operation }
+    {
+        let leaving = leaving_by(&self.serving.tables, &operation);
+        let begins = is_begin(&operation);
+        let reply = self.serving.serve(caller, operation);
+        self.note_view(leaving, begins, &reply);
+        reply
+    }
+
+    // A request about a node of a tree is counted, by its view.
+    fn note_call(&mut self, view: Option<u64>, reply: &Option<Reply>)
+        ensures hand { self.new.serving ≡ self.old.serving }
+        ensures held { self.new.holders ≡ self.old.holders }
+    {
+        match view {
+            Some(view) => {
+                if view != PLAIN {
+                    self.tallies.ask(view, self.serving.tables.time);
+                } else if let Some(Reply::Error(Errno::EBUSY)) = reply {
+                    self.tallies.refuse();
+                }
+            }
+            None => {}
+        }
+    }
+
+    // Requests about a node of a tree.
+    fn at_tree(&mut self, caller: Caller, operation: Operation) -> Option<Reply> {
+        let view = view_of(self.serving.tables.nodes.root_of(caller.node));
+        let reply = self.serving.serve(caller, operation);
+        self.note_call(view, &reply);
+        reply
     }
 
     // Two copies of a name, and room for who holds its view.
@@ -221,7 +351,7 @@ impl<K: Machine> Holding<K> {
                     name: asked,
                     mode: 0,
                 };
-                let made = self.serving.serve(caller, operation);
+                let made = self.serve_counted(caller, operation);
                 self.note_begun(made, kept)
             }
             Err(_) => Some(Reply::Error(Errno::ENOMEM)),
@@ -280,7 +410,7 @@ impl<K: Machine> Holding<K> {
                 node: TRANSACTIONS,
                 owner: caller.owner,
             };
-            self.serving.serve(caller, Operation::RmDir { name })
+            self.serve_counted(caller, Operation::RmDir { name })
         } else {
             Some(Reply::Empty)
         }
@@ -339,8 +469,42 @@ impl<K: Machine> Holding<K> {
         ensures answered { is_some result ≡ is_answered operation }
     {
         match begun_by(&operation) {
-            Some(name) => self.begin(caller, name),
-            None => self.serving.serve(caller, operation),
+            Some(name) => {
+                if is_status(name) {
+                    Some(Reply::Error(Errno::EEXIST))
+                } else {
+                    self.begin(caller, name)
+                }
+            }
+            None => self.about_views(caller, operation),
+        }
+    }
+
+    // Requests about the directory of transactions that hold nothing.
+    fn about_views(&mut self, caller: Caller, operation: Operation) -> Option<Reply> {
+        match sought_by(&operation) {
+            Sought::Status => Some(Reply::Entry(entry_of_node(&self.serving.tables, STATUS))),
+            Sought::ItsName => Some(Reply::Error(Errno::EEXIST)),
+            Sought::Other => self.serve_counted(caller, operation),
+        }
+    }
+
+    // Requests about the file that tells what goes on.
+    fn at_status(&mut self, caller: Caller, operation: Operation) -> Option<Reply> {
+        match &operation {
+            Operation::Read {
+                handle: _,
+                offset,
+                size,
+                open_flags: _,
+            } => Some(reply_of(read_status(
+                &self.serving.tables,
+                &self.tallies,
+                *offset,
+                *size,
+            ))),
+            Operation::GetAttr { handle: _ } => Some(status_attr(&self.serving.tables)),
+            _ => self.serving.serve(caller, operation),
         }
     }
 
@@ -380,9 +544,15 @@ impl<K: Machine> Holding<K> {
             → TimesStayInView (seen self.old.serving.tables) (seen self.new.serving.tables) caller.node }
     {
         match class_of(caller.node) {
-            Class::Tree => self.serving.serve(caller, operation),
+            Class::Tree => self.at_tree(caller, operation),
             Class::Transactions => self.at_transactions(caller, operation),
-            Class::Control(view) => self.at_file(caller, view, operation),
+            Class::Control(view) => {
+                if view == PLAIN {
+                    self.at_status(caller, operation)
+                } else {
+                    self.at_file(caller, view, operation)
+                }
+            }
         }
     }
 }

@@ -14,6 +14,8 @@ mod releasing;
 mod server;
 mod serving;
 mod starting;
+mod status;
+mod tallies;
 mod transactions;
 
 pub use server::Server;
