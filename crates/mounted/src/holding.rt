@@ -497,12 +497,7 @@ impl<K: Machine> Holding<K> {
                 offset,
                 size,
                 open_flags: _,
-            } => Some(reply_of(read_status(
-                &self.serving.tables,
-                &self.tallies,
-                *offset,
-                *size,
-            ))),
+            } => Some(reply_of(read_status(&self.serving.tables, &self.tallies, *offset, *size))),
             Operation::GetAttr { handle: _ } => Some(status_attr(&self.serving.tables)),
             _ => self.serving.serve(caller, operation),
         }

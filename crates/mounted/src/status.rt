@@ -54,9 +54,15 @@ fn put_counts(
 ) -> Result<(), AllocError> {
     let age = millis_since(tally.began, now);
     let idle = millis_since(tally.asked, now);
-    let Ok(counts) = format!(in heap; " P{} priority {level} age {}.{:03} idle {}.{:03} calls {} ",
-        pid.0, age / 1_000, age % 1_000, idle / 1_000, idle % 1_000, tally.calls)
-    else {
+    let Ok(counts) = format!(in heap;
+        " P{} priority {level} age {}.{:03} idle {}.{:03} calls {} ",
+        pid.0,
+        age / 1_000,
+        age % 1_000,
+        idle / 1_000,
+        idle % 1_000,
+        tally.calls
+    ) else {
         return Err(AllocError);
     };
     put(bytes, counts.as_bytes())
@@ -78,9 +84,10 @@ fn put_view(
 
 // The line of all.
 fn put_totals(heap: Heap, bytes: &mut Vec<u8, Heap>, totals: Totals) -> Result<(), AllocError> {
-    let Ok(line) = format!(in heap; "all begun {} committed {} given-up {} lost {} refused {}\n",
-        totals.begun, totals.committed, totals.given_up, totals.lost, totals.refused)
-    else {
+    let Ok(line) = format!(in heap;
+        "all begun {} committed {} given-up {} lost {} refused {}\n",
+        totals.begun, totals.committed, totals.given_up, totals.lost, totals.refused
+    ) else {
         return Err(AllocError);
     };
     put(bytes, line.as_bytes())
