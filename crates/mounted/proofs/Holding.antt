@@ -1,6 +1,6 @@
 -- What requests of holders keep, and what they come to.
-use Rattle.std.proofs.Common.{◌≡◌, ◌≢◌, ◌⊎◌, inl, inr, ℕ, ◌+◌, ◌-◌, ◌^◌, Bool, true, false, List, refl, sym, ap, subst, ◌∙◌}
-use Rattle.std.specs.Prelude.{Option, Some, None, min, nat_lt, option_map}
+use Rattle.std.proofs.Common.{◌≡◌, ◌≢◌, ◌⊎◌, inl, inr, ℕ, ◌+◌, ◌-◌, Bool, true, false, List, refl, sym, ap, subst, ◌∙◌}
+use Rattle.std.specs.Prelude.{Option, Some, None, ◌^◌, min, nat_lt, option_map}
 use Rattle.model.specs.FiniteMap as map
 use Rattle.history_laws.specs.Headline.{IsSerializable}
 use Rattle.fuse.specs.Operations.{is_answered}
@@ -18,7 +18,7 @@ use Rattle.mount_requests.specs.Seen.{Seen}
 use Rattle.mount_requests.specs.declared.requests.Caller.{Caller}
 use Rattle.mounted.specs.Controls.{number_in}
 use Rattle.mounted.specs.Holding.{BeginsHeld, EndsBy, Held, Holds, HoldsBegun, HoldsFirst, LetsGo, LetsGoBy, ShowsHeld, asked_of, begun_by, begun_view, leads_to, with_opens}
-use Rattle.mounted.specs.Holding.BeginsHeld.{Asked, Refused}
+use Rattle.mounted.specs.Holding.BeginsHeld.{NoRoom, Tried}
 use Rattle.mounted.specs.Served.{IsServed}
 use Rattle.mounted.specs.Server.{HasGrown, Lasts}
 use Rattle.mounted.specs.Sound.{StaysSound}
@@ -62,7 +62,7 @@ module _ {s t later known : Seen} {u v w x : Shown} (from : t ≡ s) (at : v ≡
 
   begun_named : {who : Caller} {name : List ℕ} {h k : Held} {made r : Option Reply} → IsServed t later who (asked.MkDir name 0) v w made → HoldsBegun (begun_view made (number_in later name)) made h k name r → BeginsHeld s known h k who name u x r
   begun_named {who} {name} {h} {k} {made} {r} served begun =
-      Asked made (served_as served) (subst (λ (z : Seen). HoldsBegun (begun_view made (number_in z name)) made h k name r) (sym into) begun)
+      Tried made (served_as served) (subst (λ (z : Seen). HoldsBegun (begun_view made (number_in z name)) made h k name r) (sym into) begun)
 
   -- a transaction has begun, or was to begin
   pub begins_held : {who : Caller} {name first second : List ℕ} {g h k : Held} {made r : Option Reply} → first ≡ name → second ≡ name → g ≡ h → IsServed t later who (asked.MkDir first 0) v w made → HoldsBegun (begun_view made (number_in later second)) made g k second r → BeginsHeld s known h k who name u x r
@@ -73,27 +73,27 @@ module _ {s t later known : Seen} {u v w x : Shown} (from : t ≡ s) (at : v ≡
 
 -- memory was refused before
 pub begins_refused : {s later : Seen} {h k : Held} {who : Caller} {name : List ℕ} {u v : Shown} → v ≡ u → later ≡ s → k ≡ h → BeginsHeld s later h k who name u v (Some (reply.Error errno.ENOMEM))
-begins_refused same known held = Refused (same, known, held, refl)
+begins_refused same known held = NoRoom (same, known, held, refl)
 
 -- ---- a view that is held, or let go
 
-pub held_more : {s later : Seen} {h k : Held} {view : ℕ} {u v : Shown} {r : Option Reply} (o : Option Holder) (opens : ℕ) → Some opens ≡ option_map (λ (x : Holder). x.opens) o → v ≡ u → later ≡ s → ShowsHeld r → k ≡ with_opens view (min_of opens) o h → Holds o s later h k view u v r
-held_more {h = h} {view = view} (Some holder) opens is same known shows held =
+pub held_more : {s later : Seen} {h k : Held} {view : ℕ} {u v : Shown} {r : Option Reply} (o : Option Holder) (opens : ℕ) {more : ℕ} → Some opens ≡ option_map (λ (x : Holder). x.opens) o → more ≡ min_of opens → v ≡ u → later ≡ s → ShowsHeld r → k ≡ with_opens view more o h → Holds o s later h k view u v r
+held_more {h = h} {view = view} (Some holder) opens is count same known shows held =
     let e : opens ≡ holder.opens = cc in
-    (same, known, shows, (held ∙ ap (λ (n : ℕ). map.insert h view (record holder { opens = min_of n })) e))
-held_more None opens is same known shows held = absurd cc
+    (same, known, shows, (held ∙ ap (λ (n : ℕ). map.insert h view (record holder { opens = n })) (count ∙ ap min_of e)))
+held_more None opens is count same known shows held = absurd cc
 
 pub held_first : {s later : Seen} {h k : Held} {view : ℕ} {u v : Shown} {r : Option Reply} (o : Option Holder) → None ≡ option_map (λ (x : Holder). x.opens) o → HoldsFirst s later h k view u v r → Holds o s later h k view u v r
 held_first (Some holder) is first = absurd cc
 held_first None is first = first
 
 -- while another one holds it
-pub lets_go_more : {s later : Seen} {h k : Held} {who : Caller} {view : ℕ} {u v : Shown} (o : Option Holder) (opens : ℕ) → Some opens ≡ option_map (λ (x : Holder). x.opens) o → nat_lt 1 opens ≡ true → v ≡ u → later ≡ s → k ≡ with_opens view (opens - 1) o h → LetsGo o s later h k who view u v (Some reply.Empty)
-lets_go_more {s} {later} {h} {k} {who} {view} {u} {v} (Some holder) opens is more same known held =
+pub lets_go_more : {s later : Seen} {h k : Held} {who : Caller} {view : ℕ} {u v : Shown} (o : Option Holder) (opens : ℕ) {fewer : ℕ} → Some opens ≡ option_map (λ (x : Holder). x.opens) o → nat_lt 1 opens ≡ true → fewer ≡ opens - 1 → v ≡ u → later ≡ s → k ≡ with_opens view fewer o h → LetsGo o s later h k who view u v (Some reply.Empty)
+lets_go_more {s} {later} {h} {k} {who} {view} {u} {v} (Some holder) opens is more count same known held =
     let e : opens ≡ holder.opens = cc in
     subst (λ (b : Bool). LetsGoBy b holder s later h k who view u v (Some reply.Empty)) (sym (sym (ap (λ (n : ℕ). nat_lt 1 n) e) ∙ more))
-    (same, known, (held ∙ ap (λ (n : ℕ). map.insert h view (record holder { opens = n - 1 })) e), refl)
-lets_go_more None opens is more same known held = absurd cc
+    (same, known, (held ∙ ap (λ (n : ℕ). map.insert h view (record holder { opens = n })) (count ∙ ap (λ (n : ℕ). n - 1) e)), refl)
+lets_go_more None opens is more count same known held = absurd cc
 
 -- nobody has held it
 pub lets_go_none : {s later : Seen} {h k : Held} {who : Caller} {view : ℕ} {u v : Shown} (o : Option Holder) → None ≡ option_map (λ (x : Holder). x.opens) o → v ≡ u → later ≡ s → k ≡ h → LetsGo o s later h k who view u v (Some reply.Empty)

@@ -16,5 +16,6 @@ mod Outcomes
 mod Apart
 mod Setting
 mod Room
+mod Written
 mod Names
 mod Holding

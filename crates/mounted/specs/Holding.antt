@@ -111,7 +111,7 @@ pub data HoldsFirst (s later : Seen) (h known : Held) (view : ℕ) (old new : Sh
   Nameless : ((name : List ℕ) → number_in s name ≢ Some view)
       → Leaves (reply.Error errno.ENOENT) s later h known old new r
       → HoldsFirst s later h known view old new r
-  Refused : Leaves (reply.Error errno.ENOMEM) s later h known old new r
+  NoMemory : Leaves (reply.Error errno.ENOMEM) s later h known old new r
       → HoldsFirst s later h known view old new r
 
 abbrev pub Holds : Option Holder → Seen → Seen → Held → Held → ℕ → Shown → Shown → Option Reply → Type 0
@@ -159,9 +159,9 @@ HoldsBegun None made h known name r = (known ≡ h) × (r ≡ made)
 -- A transaction begins as by mkdir of its name, and is held. What may be refused memory comes before.
 pub data BeginsHeld (s later : Seen) (h known : Held) (who : Caller) (name : List ℕ) (old new : Shown)
     (r : Option Reply) : Type 0 where
-  Refused : Leaves (reply.Error errno.ENOMEM) s later h known old new r
+  NoRoom : Leaves (reply.Error errno.ENOMEM) s later h known old new r
       → BeginsHeld s later h known who name old new r
-  Asked : (made : Option Reply) → IsServed s later who (asked.MkDir name 0) old new made
+  Tried : (made : Option Reply) → IsServed s later who (asked.MkDir name 0) old new made
       → HoldsBegun (begun_view made (number_in later name)) made h known name r
       → BeginsHeld s later h known who name old new r
 

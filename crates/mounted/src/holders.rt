@@ -1,5 +1,5 @@
 // Who holds transactions.
-ghost use Rattle.std.specs.Prelude.{◌≡◌, ◌+◌, ◌≤◌, ◌<◌, IsOk, OnErr, OnOk, option_map, option_copied};
+ghost use Rattle.std.specs.Prelude.{◌≡◌, ◌<◌, IsOk, OnErr, OnOk, option_map, option_copied};
 ghost use Rattle.model.specs.FiniteMap as map;
 ghost use Rattle.mount_tables.specs.Rows.{rows_in};
 ghost use Rattle.mounted.specs.Holding.{with_opens};
@@ -74,8 +74,9 @@ fn set_opens(
     ensures rows { rows_in rows.new ≡ with_opens view opens (map.get (rows_in rows.old) view) (rows_in rows.old) }
     ensures room { spare rows.new ≡ spare rows.old }
 {
-    if let Some(holder) = rows.get_mut(&view) {
-        holder.opens = opens;
+    match rows.get_mut(&view) {
+        Some(holder) => holder.opens = opens,
+        None => {}
     }
 }
 
@@ -89,11 +90,18 @@ impl Holders {
         }
     }
 
+    // Who holds a view.
+    fn get(&self, view: u64) -> Option<&Holder>
+        ensures { option_copied result ≡ map.get self.now.rows view }
+    {
+        self.rows.get(&view)
+    }
+
     // Through how many open files a view is held; None where it is not held.
     pub(crate) fn opens(&self, view: u64) -> Option<u64>
         ensures { result ≡ option_map (λ h. h.opens) (map.get self.now.rows view) }
     {
-        match self.rows.get(&view) {
+        match self.get(view) {
             Some(holder) => Some(holder.opens),
             None => None,
         }
@@ -107,12 +115,22 @@ impl Holders {
         self.rows.reserve(1)
     }
 
+    // A view is held so from now on. Refused memory changes nothing.
+    fn insert(&mut self, view: u64, holder: Holder) -> Result<(), AllocError>
+        ensures ok { OnOk result (self.new.rows ≡ map.insert self.old.rows view holder) }
+        ensures err { OnErr result (self.new.rows ≡ self.old.rows) }
+        ensures succeeds { 0 < self.old.room → IsOk result }
+    {
+        self.rows.insert(view, holder)?;
+        Ok(())
+    }
+
     // A view is held through one open file, for which there is room.
     pub(crate) fn add(&mut self, view: u64, name: Bytes)
         requires { 0 < self.old.room }
         ensures { self.new.rows ≡ map.insert self.old.rows view (record { name = name; opens = 1 }) }
     {
-        let added: Result<_, _> = self.rows.insert(view, Holder { name, opens: 1 });
+        let added: Result<_, _> = self.insert(view, Holder { name, opens: 1 });
         added.unwrap();
     }
 

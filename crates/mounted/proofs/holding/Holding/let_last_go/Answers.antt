@@ -1,4 +1,4 @@
-use Rattle.std.proofs.Common.{refl, absurd, sym, ◌∙◌}
+use Rattle.std.proofs.Common.{refl}
 use Rattle.mount_requests.specs.Seen.{seen}
 use Rattle.mounted.proofs.Holding.{ends_last, lasts_is}
 use Rattle.mounted.proofs.holding.Holding.let_last_go.Goals as goal
