@@ -59,7 +59,7 @@ shown() {
     cat .tx/two/file >/dev/null || true
     "$top/txtop" --once "$mnt" >"$room/top"
     grep -q "^$mnt: live " "$room/top"
-    grep -q "^one  *P[0-9]*  *0  *[0-9.]* s  *[0-9.]* s  *[0-9]*  .*($(cat /proc/$BASHPID/comm)).*  live$" "$room/top"
+    grep -q "^one  *P[0-9]*  *0  *[0-9.]* s  *[0-9.]* s  *[0-9]*  .*($(<"/proc/$$/comm")).*  live$" "$room/top"
     grep -q '^two  .*aborted .* by P[0-9]*, which is one$' "$room/top"
     rmdir .tx/two
     exec 5>&-
