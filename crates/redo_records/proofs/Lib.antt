@@ -1,9 +1,0 @@
-mod Looking
-mod Running
-mod Leading
-mod Beginnings
-mod Suiting
-mod Dooming
-mod Noting
-mod Telling
-pub mod Laws
