@@ -1,8 +1,0 @@
-pub mod CallForms
-pub mod EntryForms
-pub mod Formats
-pub mod FrontForms
-pub mod Loop
-pub mod PartForms
-pub mod Putting
-pub mod ReplyForms
