@@ -1,5 +1,5 @@
 # What tests of a mounted tree have in common: sourced with the test's name in `test`, it mounts a tree on $mnt, in a mount namespace of its
-# own. $room is a folder beside it. It ends the test where nothing can be mounted here, which one line says.
+# own, with the options of txfs that stand in `options`. $room is a folder beside it. It ends the test where nothing can be mounted here, which one line says.
 set -u
 top=$(dirname "$(dirname "$(readlink -f "$0")")")
 
@@ -23,7 +23,7 @@ cleanup() {
 trap cleanup EXIT
 trap 'exit 130' INT TERM
 
-"$top/mount" "$mnt" >"$room/said" 2>&1 &
+"$top/mount" "$mnt" ${options:+-- $options} >"$room/said" 2>&1 &
 for _ in $(seq 100); do
     [ -d "$mnt/.tx" ] && break
     sleep 0.1

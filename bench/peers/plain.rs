@@ -49,6 +49,7 @@ enum Op {
     Close(usize),
     Truncate(Vec<u8>, usize),
     Rename(Vec<u8>, Vec<u8>),
+    Exchange(Vec<u8>, Vec<u8>),
     Unlink(Vec<u8>),
     Symlink(Vec<u8>, Vec<u8>),
     Readlink(Vec<u8>),
@@ -160,6 +161,11 @@ fn lay(bytes: &mut Vec<u8>, offset: usize, added: &[u8]) -> Result<usize, Errno>
     Ok(end)
 }
 
+/// Whether a path leads below another.
+fn is_below(path: &[u8], above: &[u8]) -> bool {
+    path.starts_with(above) && path.get(above.len()) == Some(&b'/')
+}
+
 /// So many of a file's bytes from an offset on, or as many as there are.
 fn part(bytes: &[u8], offset: usize, count: usize) -> &[u8] {
     let start = offset.min(bytes.len());
@@ -209,6 +215,7 @@ impl Kernel {
             Op::Close(descriptor) => self.close(process, *descriptor),
             Op::Truncate(path, length) => self.truncate(path, *length),
             Op::Rename(old, new) => self.rename(old, new),
+            Op::Exchange(old, new) => self.exchange(old, new),
             Op::Unlink(path) => self.unlink(path),
             Op::Symlink(target, path) => self.symlink(target, path),
             Op::Readlink(path) => self.readlink(path),
@@ -585,7 +592,7 @@ impl Kernel {
         let (to, new_name) = self.parent(new)?;
         let moved = self.look(from, old_name)?;
         let is_file = self.has_links(moved);
-        if !is_file && new.starts_with(old) && new.get(old.len()) == Some(&b'/') {
+        if !is_file && is_below(new, old) {
             return Err(Errno::Invalid);
         }
         let replaced = self.names(to)?.get(new_name).copied();
@@ -600,6 +607,20 @@ impl Kernel {
         if let Some(number) = replaced {
             self.drop_link(number);
         }
+        Ok(Reply::Done)
+    }
+
+    /// Exchanges what two names give, of which neither is below the other.
+    fn exchange(&mut self, old: &[u8], new: &[u8]) -> Answer {
+        let (from, old_name) = self.parent(old)?;
+        let (to, new_name) = self.parent(new)?;
+        let first = self.look(from, old_name)?;
+        let second = self.look(to, new_name)?;
+        if is_below(old, new) || is_below(new, old) {
+            return Err(Errno::Invalid);
+        }
+        self.names_mut(from)?.insert(old_name.to_vec(), second);
+        self.names_mut(to)?.insert(new_name.to_vec(), first);
         Ok(Reply::Done)
     }
 
@@ -809,6 +830,9 @@ fn print_small() {
         });
         old_names(kernel, "chown of one file of 1000", 1000, |kernel, number| {
             step(kernel, 1, Op::Chown(path(b'f', number), 1, 2));
+        });
+        old_names(kernel, "exchange of two names of 1000", 1000, |kernel, number| {
+            step(kernel, 1, Op::Exchange(path(b'f', number), path(b'f', scattered(0))));
         });
         old_names(kernel, "rename", 1000, |kernel, number| {
             step(kernel, 1, Op::Rename(path(b'f', number), path(b'g', number)));

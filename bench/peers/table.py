@@ -21,6 +21,7 @@ CALLS = [
     "mkdir of 500000 names",
     "mkdir of 1000000 names",
     "rename",
+    "exchange of two names of 1000",
     "unlink",
     "symlink of 1000 names",
     "readlink",
@@ -46,6 +47,8 @@ GROWTH = [
     ["1 entry", "1000 entries", "1000000 entries"],
 ]
 
+DESCRIPTORS = ["1 open descriptor", "1000 open descriptors", "10000 open descriptors"]
+
 LENGTHS = ["transactions of 10 calls", "transactions of 10000 calls"]
 
 FILES = [
@@ -58,6 +61,8 @@ FILES = [
         "pread 4 KiB anywhere",
         "ftruncate by one byte",
         "truncate by one byte",
+        "lseek to the next data",
+        "fallocate, punch 4 KiB anywhere",
         "ftruncate a gap to no byte",
     )
     for size in (1, 16, 256, 1024)
@@ -185,10 +190,9 @@ def print_calls(best):
         print(note + "\n")
 
 
-def print_growth(best):
-    print("Growth: nanoseconds of a mkdir, and how often the first row of the group goes into it\n")
+def print_groups(best, groups):
     rows = []
-    for group in GROWTH:
+    for group in groups:
         first_plain = nanos_of(best, "plain", group[0])
         first_within = nanos_of(best, "within", group[0])
         for row in group:
@@ -204,6 +208,13 @@ def print_growth(best):
                 ]
             )
     print_table(["beside", "plain", "to the first", "in a transaction", "to the first"], rows)
+
+
+def print_growth(best):
+    print("Growth: nanoseconds of a mkdir, and how often the first row of the group goes into it\n")
+    print_groups(best, GROWTH)
+    print("Open descriptors: nanoseconds of an open and a close, and how often the first row goes into them\n")
+    print_groups(best, [DESCRIPTORS])
 
 
 def print_lengths(best):

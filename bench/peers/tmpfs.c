@@ -184,6 +184,14 @@ static void do_rename(uint64_t number)
     must(rename(old, new), "rename");
 }
 
+static void do_exchange(uint64_t number)
+{
+    char old[16], new[16];
+    set_path(old, 'f', number);
+    set_path(new, 'f', scattered(0));
+    must(renameat2(AT_FDCWD, old, AT_FDCWD, new, RENAME_EXCHANGE), "renameat2");
+}
+
 static void do_unlink(uint64_t number)
 {
     char path[16];
@@ -308,6 +316,7 @@ static void small(void)
         old_names("truncate of one file of 1000", 1000, do_truncate);
         old_names("chmod of one file of 1000", 1000, do_chmod);
         old_names("chown of one file of 1000", 1000, do_chown);
+        old_names("exchange of two names of 1000", 1000, do_exchange);
         old_names("rename", 1000, do_rename);
         old_names("unlink", 1000, do_unlink);
         new_names("symlink of 1000 names", 1000, do_symlink);
@@ -409,6 +418,16 @@ static void do_cut_by_path(uint32_t i, uint32_t size)
     must(truncate("file", size - (1 - i % 2)), "truncate");
 }
 
+static void do_data(uint32_t i, uint32_t size)
+{
+    must(lseek(open_file, offset_of(i, size), SEEK_DATA) < 0 ? -1 : 0, "lseek");
+}
+
+static void do_punch(uint32_t i, uint32_t size)
+{
+    must(fallocate(open_file, FALLOC_FL_PUNCH_HOLE | FALLOC_FL_KEEP_SIZE, offset_of(i, size), PIECE), "fallocate");
+}
+
 static void file_row(const char *name, uint32_t mib, file_work *each)
 {
     char row[64];
@@ -453,6 +472,8 @@ static void files(void)
         file_row("pread 4 KiB anywhere", sizes[at], do_pread_anywhere);
         file_row("ftruncate by one byte", sizes[at], do_cut);
         file_row("truncate by one byte", sizes[at], do_cut_by_path);
+        file_row("lseek to the next data", sizes[at], do_data);
+        file_row("fallocate, punch 4 KiB anywhere", sizes[at], do_punch);
         emptied_row(sizes[at]);
         drop_file();
     }

@@ -16,7 +16,7 @@ static int install(kagzuvis *kernel, unsigned process, void *folder)
 
 int main(int argc, char **argv)
 {
-    struct kagzuvis_options options = {"00", 0, 0, 0, stdout};
+    struct kagzuvis_options options = {.priorities = "00", .trace = stdout};
     kagzuvis *kernel = kagzuvis_start(argc > 1 ? argv[1] : "", &options);
     return kernel == NULL || kagzuvis_run(kernel, 1, install, "/editor", 9) != 0
         || kagzuvis_open(kernel, 2, "/editor/files", KAGZUVIS_RDONLY) < 0 || kagzuvis_stop(kernel, NULL) < 0;

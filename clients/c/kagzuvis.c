@@ -415,10 +415,26 @@ int64_t kagzuvis_lseek(kagzuvis *kernel, unsigned process, int fd, int64_t offse
     begin_call(kernel, process, LSEEK);
     put_fd(kernel, fd);
     put_offset(kernel, offset);
-    put_word(kernel, whence == SEEK_SET ? "SET" : whence == SEEK_CUR ? "CUR" : "END");
-    if (whence != SEEK_SET && whence != SEEK_CUR && whence != SEEK_END)
+    put_word(kernel, whence == SEEK_SET ? "SET"
+        : whence == SEEK_CUR ? "CUR"
+        : whence == SEEK_END ? "END"
+        : whence == KAGZUVIS_SEEK_DATA ? "DATA" : "HOLE");
+    if (whence != SEEK_SET && whence != SEEK_CUR && whence != SEEK_END && whence != KAGZUVIS_SEEK_DATA
+        && whence != KAGZUVIS_SEEK_HOLE)
         spoil(kernel, KAGZUVIS_MISUSED);
     return ask_number(kernel, process, LSEEK);
+}
+
+int kagzuvis_fallocate(kagzuvis *kernel, unsigned process, int fd, int64_t offset, int64_t length, enum kagzuvis_space space)
+{
+    begin_call(kernel, process, FALLOCATE);
+    put_fd(kernel, fd);
+    put_offset(kernel, offset);
+    put_offset(kernel, length);
+    put_word(kernel, space == KAGZUVIS_GROW ? "GROW" : space == KAGZUVIS_KEEP ? "KEEP" : "PUNCH");
+    if (space != KAGZUVIS_GROW && space != KAGZUVIS_KEEP && space != KAGZUVIS_PUNCH)
+        spoil(kernel, KAGZUVIS_MISUSED);
+    return ask(kernel, process, FALLOCATE);
 }
 
 int kagzuvis_ftruncate(kagzuvis *kernel, unsigned process, int fd, uint32_t length)
@@ -470,6 +486,11 @@ int kagzuvis_link(kagzuvis *kernel, unsigned process, const char *old_path, cons
 int kagzuvis_unlink(kagzuvis *kernel, unsigned process, const char *path)
 {
     return on_path(kernel, process, UNLINK, path);
+}
+
+int kagzuvis_exchange(kagzuvis *kernel, unsigned process, const char *old_path, const char *new_path)
+{
+    return on_paths(kernel, process, EXCHANGE, old_path, new_path);
 }
 
 int kagzuvis_rename(kagzuvis *kernel, unsigned process, const char *old_path, const char *new_path)
@@ -780,30 +801,36 @@ static kagzuvis *checked_kernel(const char *priorities, FILE *trace)
     return NULL;
 }
 
+/* An option with its number, behind the words so far, where it is given. */
+static size_t add_limit(char **words, size_t count, char *option, char text[24], unsigned long value)
+{
+    if (value == 0)
+        return count;
+    snprintf(text, 24, "%lu", value);
+    words[count++] = option;
+    words[count++] = text;
+    return count;
+}
+
 kagzuvis *kagzuvis_start(const char *program, const struct kagzuvis_options *options)
 {
     static const struct kagzuvis_options none;
     const struct kagzuvis_options *given = options != NULL ? options : &none;
     kagzuvis *kernel = checked_kernel(given->priorities != NULL ? given->priorities : "0", given->trace);
-    char limit[24], file_limit[24];
+    char limit[24], file_limit[24], descriptors[24], path_limit[24];
     char stream_word[] = "--stream", limit_word[] = "--limit", file_limit_word[] = "--file-limit", check_word[] = "--check";
-    char *words[8];
+    char descriptors_word[] = "--descriptors", path_limit_word[] = "--path-limit";
+    char *words[12];
     size_t count = 0;
 
     if (kernel == NULL)
         return NULL;
-    snprintf(limit, sizeof limit, "%lu", given->limit);
-    snprintf(file_limit, sizeof file_limit, "%lu", given->file_limit);
     words[count++] = (char *)program;
     words[count++] = stream_word;
-    if (given->limit != 0) {
-        words[count++] = limit_word;
-        words[count++] = limit;
-    }
-    if (given->file_limit != 0) {
-        words[count++] = file_limit_word;
-        words[count++] = file_limit;
-    }
+    count = add_limit(words, count, limit_word, limit, given->limit);
+    count = add_limit(words, count, file_limit_word, file_limit, given->file_limit);
+    count = add_limit(words, count, descriptors_word, descriptors, given->descriptors);
+    count = add_limit(words, count, path_limit_word, path_limit, given->path_limit);
     if (given->check)
         words[count++] = check_word;
     words[count] = NULL;

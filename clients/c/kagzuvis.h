@@ -90,6 +90,12 @@ enum {
 /* How a transaction begins: a sum of these, or 0. */
 enum { KAGZUVIS_RESTART = 1, KAGZUVIS_ABORT_UNSUPPORTED = 2 };
 
+/* From where the next data, or the next hole, is looked for. (Linux's SEEK_DATA and SEEK_HOLE have these numbers.) */
+enum { KAGZUVIS_SEEK_DATA = 3, KAGZUVIS_SEEK_HOLE = 4 };
+
+/* What becomes of a range of a file: the file reaches to its end at least, nothing shows, or it is zeros. */
+enum kagzuvis_space { KAGZUVIS_GROW, KAGZUVIS_KEEP, KAGZUVIS_PUNCH };
+
 /* What an entry of a directory, its names, and so on are, of which a conflict tells. */
 enum kagzuvis_aspect {
     KAGZUVIS_ENTRY,
@@ -152,6 +158,8 @@ struct kagzuvis_options {
     unsigned long file_limit;
     int check;                 /* the program's --check */
     FILE *trace;               /* to which the line of each answer is written, or NULL */
+    unsigned long descriptors; /* the program's --descriptors and --path-limit; 0: not given */
+    unsigned long path_limit;
 };
 
 struct kagzuvis_end {
@@ -182,7 +190,7 @@ const struct kagzuvis_answer *kagzuvis_last(const kagzuvis *kernel);
 const char *kagzuvis_error_name(enum kagzuvis_error error);
 
 /* The calls. A read, a fill and a write do at most what fits into one line, and answer how much that was. An offset counts, as
- * in POSIX, from SEEK_SET, SEEK_CUR or SEEK_END. */
+ * in POSIX, from SEEK_SET, SEEK_CUR or SEEK_END, or it is one to look from. */
 int kagzuvis_open(kagzuvis *kernel, unsigned process, const char *path, unsigned flags);
 int kagzuvis_close(kagzuvis *kernel, unsigned process, int fd);
 long kagzuvis_read(kagzuvis *kernel, unsigned process, int fd, void *buffer, size_t count);
@@ -193,12 +201,14 @@ long kagzuvis_fill(kagzuvis *kernel, unsigned process, int fd, size_t count, uns
 long kagzuvis_pfill(kagzuvis *kernel, unsigned process, int fd, size_t count, unsigned char byte, int64_t offset);
 int64_t kagzuvis_lseek(kagzuvis *kernel, unsigned process, int fd, int64_t offset, int whence);
 int kagzuvis_ftruncate(kagzuvis *kernel, unsigned process, int fd, uint32_t length);
+int kagzuvis_fallocate(kagzuvis *kernel, unsigned process, int fd, int64_t offset, int64_t length, enum kagzuvis_space space);
 int kagzuvis_truncate(kagzuvis *kernel, unsigned process, const char *path, uint32_t length);
 int kagzuvis_stat(kagzuvis *kernel, unsigned process, const char *path, struct kagzuvis_stat *stat);
 int kagzuvis_fstat(kagzuvis *kernel, unsigned process, int fd, struct kagzuvis_stat *stat);
 int kagzuvis_link(kagzuvis *kernel, unsigned process, const char *old_path, const char *new_path);
 int kagzuvis_unlink(kagzuvis *kernel, unsigned process, const char *path);
 int kagzuvis_rename(kagzuvis *kernel, unsigned process, const char *old_path, const char *new_path);
+int kagzuvis_exchange(kagzuvis *kernel, unsigned process, const char *old_path, const char *new_path);
 int kagzuvis_mkdir(kagzuvis *kernel, unsigned process, const char *path);
 int kagzuvis_rmdir(kagzuvis *kernel, unsigned process, const char *path);
 /* Returns the names, one piece of memory for `free`, or NULL. */

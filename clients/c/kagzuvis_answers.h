@@ -11,8 +11,8 @@
 enum form { DONE, NUMBER, BYTES, STAT, NAMES, PAIR, CHILD, BEGUN, COMMITTED, GIVEN_UP };
 
 enum operation {
-    OPEN, CLOSE, READ, PREAD, WRITE, PWRITE, LSEEK, FTRUNCATE, TRUNCATE, STAT_PATH, FSTAT, LINK, UNLINK, RENAME, MKDIR, RMDIR,
-    LIST, SYMLINK, READLINK, LSTAT, MKNOD, CHMOD, FCHMOD, CHOWN, FCHOWN, DUP, DUP2, PIPE, FORK, EXIT, BEGIN, END, ABORT
+    OPEN, CLOSE, READ, PREAD, WRITE, PWRITE, LSEEK, FTRUNCATE, TRUNCATE, FALLOCATE, STAT_PATH, FSTAT, LINK, UNLINK, RENAME,
+    EXCHANGE, MKDIR, RMDIR, LIST, SYMLINK, READLINK, LSTAT, MKNOD, CHMOD, FCHMOD, CHOWN, FCHOWN, DUP, DUP2, PIPE, FORK, EXIT, BEGIN, END, ABORT
 };
 
 /* The word of each operation, how many words stand behind it (a begin and an abort may have one), and its answer. */
@@ -22,8 +22,9 @@ static const struct {
     enum form form;
 } operations[] = {
     {"open", 2, NUMBER}, {"close", 1, DONE}, {"read", 2, BYTES}, {"pread", 3, BYTES}, {"write", 2, NUMBER},
-    {"pwrite", 3, NUMBER}, {"lseek", 3, NUMBER}, {"ftruncate", 2, DONE}, {"truncate", 2, DONE}, {"stat", 1, STAT},
-    {"fstat", 1, STAT}, {"link", 2, DONE}, {"unlink", 1, DONE}, {"rename", 2, DONE}, {"mkdir", 1, DONE}, {"rmdir", 1, DONE},
+    {"pwrite", 3, NUMBER}, {"lseek", 3, NUMBER}, {"ftruncate", 2, DONE}, {"truncate", 2, DONE}, {"fallocate", 4, DONE},
+    {"stat", 1, STAT},
+    {"fstat", 1, STAT}, {"link", 2, DONE}, {"unlink", 1, DONE}, {"rename", 2, DONE}, {"exchange", 2, DONE}, {"mkdir", 1, DONE}, {"rmdir", 1, DONE},
     {"list", 1, NAMES}, {"symlink", 2, DONE}, {"readlink", 1, BYTES}, {"lstat", 1, STAT}, {"mknod", 2, DONE}, {"chmod", 2, DONE},
     {"fchmod", 2, DONE}, {"chown", 3, DONE}, {"fchown", 3, DONE}, {"dup", 1, NUMBER}, {"dup2", 2, NUMBER}, {"pipe", 0, PAIR},
     {"fork", 0, CHILD}, {"exit", 0, DONE}, {"begin", 0, BEGUN}, {"end", 0, COMMITTED}, {"abort", 0, GIVEN_UP},

@@ -95,10 +95,16 @@ static void test_calls_of_a_file(void)
     CHECK(stat.kind == KAGZUVIS_FILE && stat.size == 4 && stat.links == 1);
     CHECK(kagzuvis_truncate(kernel, 1, "/a", 5) == 0);
     CHECK(kagzuvis_stat(kernel, 1, "/a", &stat) == 0 && stat.size == 5);
+    CHECK(kagzuvis_fallocate(kernel, 1, 0, 0, 3000, KAGZUVIS_GROW) == 0);
+    CHECK(kagzuvis_fallocate(kernel, 1, 0, 0, 9000, KAGZUVIS_KEEP) == 0);
+    CHECK(kagzuvis_lseek(kernel, 1, 0, 0, KAGZUVIS_SEEK_HOLE) == 1024);
+    CHECK(kagzuvis_lseek(kernel, 1, 0, 0, KAGZUVIS_SEEK_DATA) == 0);
+    CHECK(kagzuvis_fallocate(kernel, 1, 0, 0, 5, KAGZUVIS_PUNCH) == 0);
+    CHECK(kagzuvis_fstat(kernel, 1, 0, &stat) == 0 && stat.size == 3000);
     CHECK(kagzuvis_dup(kernel, 1, 0) == 1);
     CHECK(kagzuvis_dup2(kernel, 1, 0, 7) == 7);
     CHECK(kagzuvis_close(kernel, 1, 7) == 0);
-    CHECK(kagzuvis_last(kernel)->place == 19 && kagzuvis_last(kernel)->process == 1);
+    CHECK(kagzuvis_last(kernel)->place == 25 && kagzuvis_last(kernel)->process == 1);
     CHECK(is_text(kagzuvis_last(kernel)->operation, "close"));
     stop(kernel, 0);
 }
@@ -114,6 +120,9 @@ static void test_calls_of_names(void)
     CHECK(kagzuvis_link(kernel, 1, "/d/a", "/d/b") == 0);
     CHECK(kagzuvis_stat(kernel, 1, "/d/a", &stat) == 0 && stat.links == 2);
     CHECK(kagzuvis_rename(kernel, 1, "/d/b", "/c") == 0);
+    CHECK(kagzuvis_exchange(kernel, 1, "/c", "/d") == 0);
+    CHECK(kagzuvis_stat(kernel, 1, "/c", &stat) == 0 && stat.kind == KAGZUVIS_DIRECTORY);
+    CHECK(kagzuvis_exchange(kernel, 1, "/d", "/c") == 0);
     CHECK(kagzuvis_unlink(kernel, 1, "/d/a") == 0);
     names = kagzuvis_list(kernel, 1, "/");
     CHECK(names != NULL && names->count == 2 && strcmp(names->names[0], "c") == 0 && strcmp(names->names[1], "d") == 0);
@@ -225,6 +234,9 @@ static void test_refusals(void)
     FAILS(kernel, "EFBIG", kagzuvis_truncate(kernel, 1, "/d/a", UINT32_MAX));
     FAILS(kernel, "NotInTransaction", kagzuvis_end(kernel, 1));
     FAILS(kernel, "Misused", kagzuvis_lseek(kernel, 1, 0, 0, 77));
+    FAILS(kernel, "ESPIPE", kagzuvis_fallocate(kernel, 1, 2, 0, 1, KAGZUVIS_KEEP));
+    FAILS(kernel, "ENOENT", kagzuvis_exchange(kernel, 1, "/d", "/none"));
+    FAILS(kernel, "Misused", kagzuvis_fallocate(kernel, 1, 0, 0, 1, 77));
     FAILS(kernel, "Misused", kagzuvis_open(kernel, 1, "/a", 64));
     FAILS(kernel, "Misused", kagzuvis_begin(kernel, 1, 4));
     FAILS(kernel, "Misused", kagzuvis_send(kernel, "1 end\n1 end"));
@@ -435,6 +447,30 @@ static void test_the_end(void)
     CHECK(kagzuvis_start(program, &options) == NULL && errno == EINVAL);
 }
 
+static void test_bounds(void)
+{
+    struct kagzuvis_options options;
+    struct kagzuvis_end end = {0, 0};
+    kagzuvis *kernel;
+    int fd;
+
+    memset(&options, 0, sizeof options);
+    options.check = 1;
+    options.descriptors = 100;
+    options.path_limit = 5;
+    kernel = kagzuvis_start(program, &options);
+    CHECK(kernel != NULL);
+    if (kernel == NULL)
+        return;
+    for (fd = 0; fd < 100; fd++)
+        CHECK(kagzuvis_open(kernel, 1, "/a", KAGZUVIS_WRONLY | KAGZUVIS_CREAT) == fd);
+    FAILS(kernel, "EMFILE", kagzuvis_dup(kernel, 1, 0));
+    FAILS(kernel, "EBADF", kagzuvis_dup2(kernel, 1, 0, 100));
+    CHECK(kagzuvis_mkdir(kernel, 1, "/abcd") == 0);
+    FAILS(kernel, "ENAMETOOLONG", kagzuvis_mkdir(kernel, 1, "/abcde"));
+    CHECK(kagzuvis_stop(kernel, &end) == 0 && end.status == 0 && end.checked);
+}
+
 static void test_many_lines_ahead(void)
 {
     kagzuvis *kernel = start("0");
@@ -553,6 +589,7 @@ int main(int argc, char **argv)
     test_transactions_by_hand();
     test_bad_lines();
     test_the_end();
+    test_bounds();
     test_many_lines_ahead();
     test_hostile_answers();
     if (failures == 0)

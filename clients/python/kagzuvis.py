@@ -122,7 +122,10 @@ _PLAIN = bytes(byte for byte in range(33, 127) if byte != 92)
 _SPELLED = [bytes([byte]) if byte in _PLAIN else b"\\x%02x" % byte for byte in range(256)]
 _ESCAPE = re.compile(rb"\\x([0-9a-f]{2})")
 _ESCAPED = {b"%02x" % byte: bytes([byte]) for byte in range(256)}
-_WHENCES = {os.SEEK_SET: b"SET", os.SEEK_CUR: b"CUR", os.SEEK_END: b"END"}
+# By Linux's numbers: the last two, which not each system has, look for data and for a hole.
+_WHENCES = {os.SEEK_SET: b"SET", os.SEEK_CUR: b"CUR", os.SEEK_END: b"END", 3: b"DATA", 4: b"HOLE"}
+# What becomes of a range of a file: the file reaches to its end at least, nothing shows, or it is zeros.
+SPACES = ("GROW", "KEEP", "PUNCH")
 
 
 def spell(data):
@@ -197,6 +200,12 @@ def _special(kind):
     if kind not in KINDS[-2:]:
         raise ValueError(f"{kind} is nothing that a mknod makes")
     return kind.encode()
+
+
+def _space(space):
+    if space not in SPACES:
+        raise ValueError(f"{space} is nothing that becomes of a range")
+    return space.encode()
 
 
 def _mode(bits):
@@ -328,8 +337,8 @@ def _read_dooms(words):
 
 # How an operation's answer is read, and how many words stand behind each operation's. (A begin and an abort may have one more.)
 _READERS = (
-    (_reader_of(b"ok"), b"close 1 ftruncate 2 truncate 2 link 2 unlink 1 rename 2 mkdir 1 rmdir 1 symlink 2 mknod 2 exit 0"),
-    (_reader_of(b"ok"), b"chmod 2 fchmod 2 chown 3 fchown 3"),
+    (_reader_of(b"ok"), b"close 1 ftruncate 2 truncate 2 link 2 unlink 1 rename 2 exchange 2 mkdir 1 rmdir 1 symlink 2 mknod 2 exit 0"),
+    (_reader_of(b"ok"), b"chmod 2 fchmod 2 chown 3 fchown 3 fallocate 4"),
     (lambda words: (_decimal(words[0]), 1), b"open 2 write 2 pwrite 3 lseek 3 dup 1 dup2 2"),
     (_read_bytes, b"read 2 pread 3 readlink 1"),
     (_read_stat, b"stat 1 fstat 1 lstat 1"),
@@ -496,13 +505,16 @@ class Kernel:
     """A kernel, which is a running `txsh --stream`.
 
     `program` is its path; `priorities` has a number from 0 to 7 for each process that is made at the start; `limit`,
-    `file_limit` and `check` are the program's options. To `trace`, a text file, the line of each answer is written.
+    `file_limit`, `descriptors`, `path_limit` and `check` are the program's options. To `trace`, a text file, the line of
+    each answer is written.
     """
 
-    def __init__(self, program, *, priorities=(0,), limit=None, file_limit=None, check=False, trace=None):
+    def __init__(self, program, *, priorities=(0,), limit=None, file_limit=None, descriptors=None, path_limit=None,
+                 check=False, trace=None):
         line = _priorities_line(priorities)
         words = [os.fspath(program), "--stream"]
-        for option, value in (("--limit", limit), ("--file-limit", file_limit)):
+        limits = ("--limit", limit), ("--file-limit", file_limit), ("--descriptors", descriptors), ("--path-limit", path_limit)
+        for option, value in limits:
             if value is not None:
                 words += [option, str(operator.index(value))]
         if check:
@@ -624,11 +636,14 @@ class _Calls:
     def lseek(self, fd, offset, whence=os.SEEK_SET): return self._ask(b"lseek", _number(fd), _offset(offset), _WHENCES[whence])
     def ftruncate(self, fd, length): return self._ask(b"ftruncate", _number(fd), _number(length))
     def truncate(self, path, length): return self._ask(b"truncate", _path(path), _number(length))
+    # The space is one of SPACES.
+    def fallocate(self, fd, offset, length, space): return self._ask(b"fallocate", _number(fd), _offset(offset), _offset(length), _space(space))
     def stat(self, path): return self._ask(b"stat", _path(path))
     def fstat(self, fd): return self._ask(b"fstat", _number(fd))
     def link(self, old, new): return self._ask(b"link", _path(old), _path(new))
     def unlink(self, path): return self._ask(b"unlink", _path(path))
     def rename(self, old, new): return self._ask(b"rename", _path(old), _path(new))
+    def exchange(self, old, new): return self._ask(b"exchange", _path(old), _path(new))
     def mkdir(self, path): return self._ask(b"mkdir", _path(path))
     def rmdir(self, path): return self._ask(b"rmdir", _path(path))
     def list(self, path): return self._ask(b"list", _path(path))

@@ -51,10 +51,16 @@ class Calls(TestCase):
         self.assertEqual(process.fstat(0), Stat("file", 4, 1))
         self.assertIsNone(process.truncate("/a", 5))
         self.assertEqual(process.stat("/a"), Stat("file", 5, 1))
+        self.assertIsNone(process.fallocate(0, 0, 3000, "GROW"))
+        self.assertIsNone(process.fallocate(0, 0, 9000, "KEEP"))
+        self.assertEqual(process.lseek(0, 0, 4), 1024)
+        self.assertEqual(process.lseek(0, 0, 3), 0)
+        self.assertIsNone(process.fallocate(0, 0, 5, "PUNCH"))
+        self.assertEqual(process.fstat(0), Stat("file", 3000, 1))
         self.assertEqual(process.dup(0), 1)
         self.assertEqual(process.dup2(0, 7), 7)
         self.assertIsNone(process.close(7))
-        self.assertEqual(process.last[:5], (19, 1, "close", None, None))
+        self.assertEqual(process.last[:5], (25, 1, "close", None, None))
 
     def test_each_call_of_names(self):
         process = self.kernel().processes[0]
@@ -63,6 +69,9 @@ class Calls(TestCase):
         self.assertIsNone(process.link("/d/a", "/d/b"))
         self.assertEqual(process.stat("/d/a").links, 2)
         self.assertIsNone(process.rename("/d/b", "/c"))
+        self.assertIsNone(process.exchange("/c", "/d"))
+        self.assertEqual(process.stat("/c"), Stat("dir", 0, 1))
+        self.assertIsNone(process.exchange("/d", "/c"))
         self.assertIsNone(process.unlink("/d/a"))
         self.assertEqual(process.list("/"), [b"c", b"d"])
         self.assertEqual(process.list("/d"), [])
@@ -151,6 +160,10 @@ class Calls(TestCase):
             ("EPERM", process.unlink, "/d"),
             ("EBUSY", process.rmdir, "/"),
             ("ESPIPE", process.lseek, 1, 0),
+            ("ESPIPE", process.fallocate, 2, 0, 1, "KEEP"),
+            ("EINVAL", process.fallocate, 2, 0, 0, "PUNCH"),
+            ("EINVAL", process.exchange, "/d", "/d/a/../a"),
+            ("ENOENT", process.exchange, "/d", "/a"),
             ("EFBIG", process.truncate, "/d/a", 2**32 - 1),
             ("ELOOP", process.stat, "/l"),
             ("ENXIO", process.open, "/f", RDONLY),
@@ -176,6 +189,8 @@ class Calls(TestCase):
             (process.close, 2**32),
             (process.open, "/a", 64),
             (process.lseek, 0, 2**63),
+            (process.fallocate, 0, 0, 1, "grow"),
+            (process.fallocate, 0, 0, 2**63, "GROW"),
             (process.fill, 0, 1, 256),
             (process.mknod, "/f", "pipe"),
             (process.chmod, "/a", 0o10000),
@@ -468,6 +483,17 @@ class Streams(TestCase):
         with self.assertRaises(StreamEnded) as raised:
             process.stat("/")
         self.assertEqual(raised.exception.status, 0)
+
+    def test_bounds(self):
+        with Kernel(PROGRAM, check=True, descriptors=100, path_limit=5) as kernel:
+            process = kernel.processes[0]
+            opened = [process.open("/a", WRONLY | CREAT) for _ in range(100)]
+            self.assertEqual(opened, list(range(100)))
+            self.assertRefused("EMFILE", process.dup, 0)
+            self.assertRefused("EBADF", process.dup2, 0, 100)
+            process.mkdir("/abcd")
+            self.assertRefused("ENAMETOOLONG", process.mkdir, "/abcde")
+        self.assertEqual((kernel.status, kernel.checked), (0, True))
 
     def test_an_end_before_the_end(self):
         kernel = self.kernel(limit=1)

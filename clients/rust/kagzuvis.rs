@@ -171,6 +171,17 @@ pub enum Whence {
     Set,
     Cur,
     End,
+    /// The next data from there on, or the next hole.
+    Data,
+    Hole,
+}
+
+/// What becomes of a range of a file: the file reaches to its end at least, nothing shows, or it is zeros.
+#[derive(Clone, Copy, Debug, PartialEq, Eq)]
+pub enum Space {
+    Grow,
+    Keep,
+    Punch,
 }
 
 // ---- Lines
@@ -297,9 +308,10 @@ fn arguments_of(operation: &[u8]) -> Option<usize> {
     match operation {
         b"pipe" | b"fork" | b"exit" | b"begin" | b"end" | b"abort" => Some(0),
         b"close" | b"stat" | b"fstat" | b"unlink" | b"mkdir" | b"rmdir" | b"list" | b"readlink" | b"lstat" | b"dup" => Some(1),
-        b"open" | b"read" | b"write" | b"ftruncate" | b"truncate" | b"link" | b"rename" | b"symlink" | b"mknod" | b"dup2" => Some(2),
+        b"open" | b"read" | b"write" | b"ftruncate" | b"truncate" | b"link" | b"rename" | b"exchange" | b"symlink" | b"mknod" | b"dup2" => Some(2),
         b"chmod" | b"fchmod" => Some(2),
         b"pread" | b"pwrite" | b"lseek" | b"chown" | b"fchown" => Some(3),
+        b"fallocate" => Some(4),
         _ => None,
     }
 }
@@ -445,13 +457,23 @@ pub struct Options {
     pub priorities: Vec<u8>,
     pub limit: Option<u32>,
     pub file_limit: Option<u32>,
+    pub descriptors: Option<u32>,
+    pub path_limit: Option<u32>,
     pub check: bool,
     pub trace: Option<Box<dyn Write + Send>>,
 }
 
 impl Default for Options {
     fn default() -> Options {
-        Options { priorities: vec![0], limit: None, file_limit: None, check: false, trace: None }
+        Options {
+            priorities: vec![0],
+            limit: None,
+            file_limit: None,
+            descriptors: None,
+            path_limit: None,
+            check: false,
+            trace: None,
+        }
     }
 }
 
@@ -584,7 +606,13 @@ impl Kernel {
         priorities_line(&options.priorities)?;
         let mut command = Command::new(program);
         command.arg("--stream").stdin(Stdio::piped()).stdout(Stdio::piped());
-        for (option, value) in [("--limit", options.limit), ("--file-limit", options.file_limit)] {
+        let limits = [
+            ("--limit", options.limit),
+            ("--file-limit", options.file_limit),
+            ("--descriptors", options.descriptors),
+            ("--path-limit", options.path_limit),
+        ];
+        for (option, value) in limits {
             if let Some(value) = value {
                 command.arg(option).arg(value.to_string());
             }
@@ -765,11 +793,14 @@ impl<'k> Process<'k> {
         self.number_of(format!("pfill {fd} {} {byte:02x} {offset}", count.min(LINE_LIMIT)))
     }
     pub fn lseek(&self, fd: u32, offset: i64, whence: Whence) -> Result<u32> {
-        self.number_of(format!("lseek {fd} {offset} {}", ["SET", "CUR", "END"][whence as usize]))
+        self.number_of(format!("lseek {fd} {offset} {}", ["SET", "CUR", "END", "DATA", "HOLE"][whence as usize]))
     }
     pub fn ftruncate(&self, fd: u32, length: u32) -> Result<()> { self.done(format!("ftruncate {fd} {length}")) }
     pub fn truncate(&self, path: impl AsRef<[u8]>, length: u32) -> Result<()> {
         self.done(format!("truncate {} {length}", spell(path)))
+    }
+    pub fn fallocate(&self, fd: u32, offset: i64, length: i64, space: Space) -> Result<()> {
+        self.done(format!("fallocate {fd} {offset} {length} {}", ["GROW", "KEEP", "PUNCH"][space as usize]))
     }
     pub fn stat(&self, path: impl AsRef<[u8]>) -> Result<Stat> { self.stat_of(format!("stat {}", spell(path))) }
     pub fn fstat(&self, fd: u32) -> Result<Stat> { self.stat_of(format!("fstat {fd}")) }
@@ -779,6 +810,9 @@ impl<'k> Process<'k> {
     pub fn unlink(&self, path: impl AsRef<[u8]>) -> Result<()> { self.done(format!("unlink {}", spell(path))) }
     pub fn rename(&self, old: impl AsRef<[u8]>, new: impl AsRef<[u8]>) -> Result<()> {
         self.done(format!("rename {} {}", spell(old), spell(new)))
+    }
+    pub fn exchange(&self, old: impl AsRef<[u8]>, new: impl AsRef<[u8]>) -> Result<()> {
+        self.done(format!("exchange {} {}", spell(old), spell(new)))
     }
     pub fn mkdir(&self, path: impl AsRef<[u8]>) -> Result<()> { self.done(format!("mkdir {}", spell(path))) }
     pub fn rmdir(&self, path: impl AsRef<[u8]>) -> Result<()> { self.done(format!("rmdir {}", spell(path))) }

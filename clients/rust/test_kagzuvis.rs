@@ -5,7 +5,7 @@ mod kagzuvis;
 
 use kagzuvis::Error::{Aborted, BadAnswer, BadLine, Busy, GivenUp, Misused, Refused, StreamEnded};
 use kagzuvis::Refusal::*;
-use kagzuvis::{Aspect, Cause, End, Error, Kernel, Kind, Options, Process, Special, Stat, Value, Whence};
+use kagzuvis::{Aspect, Cause, End, Error, Kernel, Kind, Options, Process, Space, Special, Stat, Value, Whence};
 use kagzuvis::{ABORT_UNSUPPORTED, APPEND, CREAT, EXCL, LINE_LIMIT, RDONLY, RDWR, RESTART, WRONLY, parse, spell, unspell};
 use std::io;
 use std::panic::{AssertUnwindSafe, catch_unwind, resume_unwind};
@@ -49,11 +49,17 @@ impl Tests {
         assert_eq!(process.fstat(0), Ok(stat(Kind::File, 4, 0o644)));
         process.truncate("/a", 5)?;
         assert_eq!(process.stat("/a")?.size, 5);
+        process.fallocate(0, 0, 3000, Space::Grow)?;
+        process.fallocate(0, 0, 9000, Space::Keep)?;
+        assert_eq!(process.lseek(0, 0, Whence::Hole), Ok(1024));
+        assert_eq!(process.lseek(0, 0, Whence::Data), Ok(0));
+        process.fallocate(0, 0, 5, Space::Punch)?;
+        assert_eq!(process.fstat(0)?.size, 3000);
         assert_eq!(process.dup(0), Ok(1));
         assert_eq!(process.dup2(0, 7), Ok(7));
         process.close(7)?;
         let answer = process.ask("close 1");
-        assert_eq!((answer.place, answer.process, answer.operation.as_str()), (20, 1, "close"));
+        assert_eq!((answer.place, answer.process, answer.operation.as_str()), (26, 1, "close"));
         assert_eq!(answer.value, Ok(Value::Done));
         Ok(())
     }
@@ -66,6 +72,9 @@ impl Tests {
         process.link("/d/a", "/d/b")?;
         assert_eq!(process.stat("/d/a")?.links, 2);
         process.rename("/d/b", "/c")?;
+        process.exchange("/c", "/d")?;
+        assert_eq!(process.stat("/c")?.kind, Kind::Dir);
+        process.exchange("/d", "/c")?;
         process.unlink("/d/a")?;
         assert_eq!(process.list("/")?, [b"c", b"d"]);
         assert_eq!(process.list("/d")?, Vec::<Vec<u8>>::new());
@@ -149,6 +158,8 @@ impl Tests {
         assert_eq!(process.unlink("/d"), refused(EPERM));
         assert_eq!(process.rmdir("/"), refused(EBUSY));
         assert_eq!(process.lseek(1, 0, Whence::Set), refused(ESPIPE));
+        assert_eq!(process.fallocate(2, 0, 0, Space::Punch), refused(EINVAL));
+        assert_eq!(process.exchange("/d", "/none"), refused(ENOENT));
         assert_eq!(process.truncate("/d/a", u32::MAX), refused(EFBIG));
         assert_eq!(process.end(), refused(NotInTransaction));
         assert_eq!(process.ask("end\n1 end").value, Err(Misused));
@@ -287,6 +298,21 @@ impl Tests {
         Ok(())
     }
 
+    fn bounds(&self) -> kagzuvis::Result<()> {
+        let options = Options { descriptors: Some(100), path_limit: Some(5), check: true, ..Options::default() };
+        let kernel = Kernel::start(&self.program, options).expect("the program starts");
+        let process = kernel.process(1);
+        for fd in 0..100 {
+            assert_eq!(process.open("/a", WRONLY | CREAT), Ok(fd));
+        }
+        assert_eq!(process.dup(0), refused(EMFILE));
+        assert_eq!(process.dup2(0, 100), refused(EBADF));
+        process.mkdir("/abcd")?;
+        assert_eq!(process.mkdir("/abcde"), refused(ENAMETOOLONG));
+        assert_eq!(kernel.close().expect("it ends"), End { status: Some(0), checked: true });
+        Ok(())
+    }
+
     fn many_lines_ahead(&self) -> kagzuvis::Result<()> {
         let kernel = self.kernel(&[0, 0]);
         let process = kernel.process(1);
@@ -393,6 +419,7 @@ fn main() {
         Tests::transactions_by_hand,
         Tests::transactions_that_run,
         Tests::bad_lines_and_the_end,
+        Tests::bounds,
         Tests::many_lines_ahead,
         Tests::hostile_answers,
     ];

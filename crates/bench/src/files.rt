@@ -3,7 +3,7 @@ use crate::clock::{Cost, Lap, print_cost};
 use crate::steps::{begin, end, step};
 use anyhow::{Result, bail};
 use heap::Heap;
-use ids::{Bytes, Call, Fd, LARGEST_FILE, Limits, Op, OpenFlags, Priority, Whence};
+use ids::{Bytes, Call, Fd, LARGEST_FILE, Limits, Op, OpenFlags, Priority, Space, Whence};
 use machine::Machine;
 
 // The one open file, and its path.
@@ -39,9 +39,13 @@ enum Work {
     Cut,
     // Does the same by the file's path.
     Truncate,
+    // Looks for data where it is.
+    Data,
+    // Makes zeros of a piece.
+    Punch,
 }
 
-static WORKS: [(&str, Work); 7] = [
+static WORKS: [(&str, Work); 9] = [
     ("write 4 KiB at the end", Work::Append),
     ("lseek, write 4 KiB anywhere", Work::Write),
     ("pwrite 4 KiB anywhere", Work::Pwrite),
@@ -49,6 +53,8 @@ static WORKS: [(&str, Work); 7] = [
     ("pread 4 KiB anywhere", Work::Pread),
     ("ftruncate by one byte", Work::Cut),
     ("truncate by one byte", Work::Truncate),
+    ("lseek to the next data", Work::Data),
+    ("fallocate, punch 4 KiB anywhere", Work::Punch),
 ];
 
 fn call<K: Machine>(kernel: &mut K, call: Call) -> Result<()> {
@@ -111,6 +117,12 @@ fn do_work<K: Machine>(kernel: &mut K, heap: Heap, work: Work, i: u32, size: u32
         Work::Truncate => {
             let path = Bytes::copy(heap, PATH.as_bytes())?;
             call(kernel, Call::Truncate(path, len_of(i, size)))
+        }
+        Work::Data => seek(kernel, offset_of(i, size), Whence::Data),
+        Work::Punch => {
+            let offset = i64::from(offset_of(i, size));
+            let range = Call::Fallocate(FILE, offset, i64::from(PIECE), Space::Punch);
+            call(kernel, range)
         }
     }
 }
@@ -229,8 +241,8 @@ pub(crate) fn kernel_with_file<K: Machine>(heap: Heap) -> Result<K> {
         bail!("there is no priority 0")
     };
     let limits = Limits {
-        entries: 65_536,
         file_bytes: LARGEST_FILE as u32,
+        ..Limits::of_entries(65_536)
     };
     let mut kernel = K::with_limits(heap, &[zero], limits)?;
     match open(&mut kernel, heap) {

@@ -3,8 +3,8 @@
 //!
 //! usage: bench PART | bench edges FILE | bench bulk WAY | bench ENDLESS MESSAGES [SHARE]
 //!
-//! PART is one of `small`, `large`, `largest`, `lengths`, `growth`, `files`, `lock` and `check`;
-//! `edges` writes transcripts to FILE; `bulk` writes a long file, and WAY is `plain` or `within`.
+//! PART is one of `small`, `large`, `largest`, `lengths`, `growth`, `descriptors`, `files`, `lock` and
+//! `check`; `edges` writes transcripts to FILE; `bulk` writes a long file, and WAY is `plain` or `within`.
 //! Each line has, with tabs between: how it was measured, a row's name, a number of calls, their
 //! nanoseconds, and their requests for memory. A row comes as often as it was measured. ENDLESS is
 //! one of `forever`, which delivers so many MESSAGES, or SHARE hundredths of them, to a spool that
@@ -17,6 +17,7 @@
 mod bulk;
 mod checked;
 mod clock;
+mod descriptors;
 mod edges;
 mod files;
 mod forever;
@@ -95,6 +96,7 @@ fn print_part<R: Threads + Wait + Sync, K: Machine + Send>(
         "largest" => rows::print_largest::<K>(rt, heap),
         "lengths" => lengths::print_lengths::<K>(rt, heap),
         "growth" => growth::print_growth::<K>(rt, heap),
+        "descriptors" => descriptors::print_descriptors::<K>(rt, heap),
         "files" => files::print_files::<K>(rt, heap),
         "lock" => lock::print_lock::<_, K>(rt, threads, heap),
         "check" => checked::print_check::<K>(rt, heap),

@@ -14,7 +14,7 @@ struct Row {
 }
 
 // The rows of a directory with 1,000 names, in the order in which they are done.
-static ROWS: [Row; 19] = [
+static ROWS: [Row; 20] = [
     Row {
         name: "mkdir of 1000 names",
         work: Work::Mkdir,
@@ -63,6 +63,11 @@ static ROWS: [Row; 19] = [
     Row {
         name: "chown of one file of 1000",
         work: Work::Chown,
+        count: 1000,
+    },
+    Row {
+        name: "exchange of two names of 1000",
+        work: Work::Exchange,
         count: 1000,
     },
     Row {

@@ -35,6 +35,8 @@ pub(crate) enum Work {
     Chmod,
     /// Sets its owner.
     Chown,
+    /// Exchanges the names of two files.
+    Exchange,
     /// Gives a file another name.
     Rename,
     /// Takes a file's name away.
@@ -103,6 +105,13 @@ fn pwrite<K: Machine>(kernel: &mut K, heap: Heap, number: u64) -> Result<()> {
     call(kernel, Call::Pwrite(FILE, bytes, offset_of(number)))
 }
 
+// With a name that all others are exchanged with.
+fn exchange<K: Machine>(kernel: &mut K, heap: Heap, number: u64) -> Result<()> {
+    let old = path(heap, b'f', number)?;
+    let new = path(heap, b'f', scattered(0))?;
+    call(kernel, Call::Exchange(old, new))
+}
+
 fn rename<K: Machine>(kernel: &mut K, heap: Heap, number: u64) -> Result<()> {
     let old = path(heap, b'f', number)?;
     let new = path(heap, b'g', number)?;
@@ -161,6 +170,7 @@ fn do_work<K: Machine>(kernel: &mut K, heap: Heap, work: Work, number: u64) -> R
         Work::Truncate => call(kernel, Call::Truncate(path(heap, b'f', number)?, SHORTER)),
         Work::Chmod => chmod(kernel, heap, number),
         Work::Chown => chown(kernel, heap, number),
+        Work::Exchange => exchange(kernel, heap, number),
         Work::Rename => rename(kernel, heap, number),
         Work::Unlink => call(kernel, Call::Unlink(path(heap, b'g', number)?)),
         Work::Symlink => symlink(kernel, heap, number),

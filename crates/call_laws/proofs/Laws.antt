@@ -4,7 +4,7 @@ use Rattle.std.specs.List.{AllByRecursion}
 use Rattle.model.specs.State.{Kernel}
 use Rattle.model.specs.Aspects.{Aspect, Keeps, KeepsAll}
 use Rattle.model.specs.Plan.{Errno}
-use Rattle.model.specs.Changes.{Edit, Make_directory, Make_file, Make_fixed, Name_file, Unname_file, Unname_directory, Move, Put_bytes, Cut, Take, Append, Set_offset, Set_rights, Open_inode, Make_pipe, Share_slot, Clear_slot, New_process, End_process, news, marks, applied, all_applied, tidy}
+use Rattle.model.specs.Changes.{Edit, Make_directory, Make_file, Make_fixed, Name_file, Unname_file, Unname_directory, Move, Swap, Put_bytes, Wipe, Cut, Take, Append, Set_offset, Set_rights, Open_inode, Make_pipe, Share_slot, Clear_slot, New_process, End_process, news, marks, applied, all_applied, tidy}
 use Rattle.model.specs.Calls.{Call, Done, own}
 use Rattle.model.specs.Plans.{Change}
 use Rattle.model.specs.Steps.{reads, outcome, edits, edits_of}
@@ -36,7 +36,7 @@ use Rattle.call_laws.proofs.law.TidyUnseen.{tidying_is_unseen}
 use Rattle.call_laws.proofs.law.Start.{well_start, tidy_start}
 -- what the crates above cite besides
 pub use Rattle.call_laws.proofs.FirstProcesses.{first_processes_live}
-pub use Rattle.call_laws.proofs.Largest.{the_largest_file_stays}
+pub use Rattle.call_laws.proofs.Bounds.{the_bounds_stay}
 pub use Rattle.call_laws.proofs.Maps.{Part, all-mapped, empty_gives, get_retained, none_by_keys, not_none, one_some, removed_other, removed_same, retained_some, some_part, some_same, stays_inserted, sum-alike, sum-empty, sum-zero, true_is_false}
 pub use Rattle.call_laws.proofs.Numbers.{can_be_made}
 pub use Rattle.call_laws.proofs.Tidying.{either_of, get_tidy, held_by, named_in, open_reached, reached, rooted_reached, tables_weight}
@@ -52,6 +52,7 @@ pub use Rattle.call_laws.proofs.edits.NamesWell.{none_count, same_links}
 pub use Rattle.call_laws.proofs.edits.Offsets.{ends_unmoved, set_there, with_offset}
 pub use Rattle.call_laws.proofs.edits.Processes.{table_in}
 pub use Rattle.call_laws.proofs.edits.Rights.{unset}
+pub use Rattle.call_laws.proofs.edits.Swapped.{still_given, swapped_kinds, swapped_links}
 pub use Rattle.call_laws.proofs.edits.SlotsAlike.{free_after, pipe_at, unused_after, with_tables}
 pub use Rattle.call_laws.proofs.law.Alive.{alive_tidy}
 pub use Rattle.call_laws.proofs.law.There.{edit_grows}
@@ -93,7 +94,9 @@ no_link P (Make_fixed d x fixed i) h = tt
 no_link P (Unname_file d x n) h = tt
 no_link P (Unname_directory d x n) h = tt
 no_link P (Move d x e y n replaced) h = tt
+no_link P (Swap d x n e y m) h = tt
 no_link P (Put_bytes n place bytes before) h = tt
+no_link P (Wipe n place count) h = tt
 no_link P (Cut n before after) h = tt
 no_link P (Take p count) h = tt
 no_link P (Append p bytes) h = tt
@@ -128,7 +131,7 @@ edits_own chosen (e ∷ es) now later pid inside by own f g =
 
 -- another's edits leave it alone
 others_alone : (chosen : List ℕ) (es : List Edit) (k : Kernel) (pid other : ℕ) (inside : Bool) → AllByRecursion (IsBy other inside) es → pid ≢ other → IsAlive k pid → WellFormed k → FitsAll chosen k es → OwnAlike k (all_applied chosen es k) pid
-others_alone chosen [] k pid other inside by away alive well f = record { root = refl; largest = refl; table = refl; fixed = λ f d is. refl }
+others_alone chosen [] k pid other inside by away alive well f = record { root = refl; bounds = refl; table = refl; fixed = λ f d is. refl }
 others_alone chosen (e ∷ es) k pid other inside by away alive well f =
     own_trans k (applied chosen e k) (all_applied chosen es (applied chosen e k)) pid
     (own_is_left_alone chosen k e pid other inside by.0 away alive well f.0)

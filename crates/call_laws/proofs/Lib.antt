@@ -5,7 +5,7 @@ mod Numbers
 mod Exceptions
 mod Trees
 mod FirstProcesses
-mod Largest
+mod Bounds
 mod edits
 mod calls
 mod law

@@ -2,6 +2,7 @@ pub mod Names
 pub mod NamesAlike
 pub mod NamesWell
 pub mod Tree
+pub mod Swapped
 pub mod Contents
 pub mod Blocks
 pub mod InodeMarks

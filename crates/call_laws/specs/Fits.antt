@@ -14,11 +14,12 @@ use Rattle.model.specs.Limits.{capacity}
 use Rattle.model.specs.Moments.{is_in}
 use Rattle.model.specs.Changes.{Made, number, Edit, Make_directory, Make_file, Make_fixed}
 use Rattle.model.specs.Changes.{Name_file, Unname_file, Unname_directory, Move, Put_bytes, Cut, Take, Append}
+use Rattle.model.specs.Changes.{Swap, Wipe}
 use Rattle.model.specs.Changes.{Set_offset, Set_rights, Open_inode, Make_pipe, Share_slot, Clear_slot}
 use Rattle.model.specs.Changes.{New_process, End_process, marks, applied, process_of}
 use Rattle.model.specs.Changes.{Replaced, Over_nothing, Over_file, Over_directory}
 use Rattle.call_laws.specs.Objects.{IsThere, LeavesAlone}
-use Rattle.call_laws.specs.WellFormed.{CanBeLinked, IsRooted, Leads, descriptor_limit}
+use Rattle.call_laws.specs.WellFormed.{CanBeLinked, IsRooted, Leads, most_descriptors}
 
 -- a name of a directory that is free
 pub record IsFree (k : Kernel) (d : ℕ) (x : Name) : Type 0 where
@@ -56,6 +57,16 @@ pub record CanMove (k : Kernel) (d : ℕ) (x : Name) (e : ℕ) (y : Name) (n : �
   pub replaces : CanBeReplaced k n old replaced
   pub no_ring : (path : List Name) → Leads k n path e → ⊥
 
+-- two names of different objects, neither of which leads to the directory of the other's name
+pub record CanSwap (k : Kernel) (d : ℕ) (x : Name) (n e : ℕ) (y : Name) (m : ℕ) : Type 0 where
+  pub what : Kind
+  pub other : Kind
+  pub first : Gives k d x n what
+  pub second : Gives k e y m other
+  pub apart : n ≢ m
+  pub no_ring : (path : List Name) → Leads k n path e → ⊥
+  pub no_ring_back : (path : List Name) → Leads k m path d → ⊥
+
 abbrev pub table_of : Kernel → ℕ → FinMap nat_cmp ℕ
 table_of k pid = (process_of k pid).table
 
@@ -85,7 +96,7 @@ pub record IsUnused (k : Kernel) (d : ℕ) : Type 0 where
 pub record IsOpenSlot (k : Kernel) (pid f : ℕ) : Type 0 where
   pub alive : IsAlive k pid
   pub free : get (table_of k pid) f ≡ None
-  pub low : f < descriptor_limit
+  pub low : f < most_descriptors k
 
 -- a description of a file that has a name
 pub record CanOpen (chosen : List ℕ) (k : Kernel) (d n pid f : ℕ) : Type 0 where
@@ -113,7 +124,7 @@ pub record CanShare (k : Kernel) (pid f d : ℕ) (pipes : List ℕ) : Type 0 whe
   pub alive : IsAlive k pid
   pub from : ℕ
   pub held : get (table_of k pid) from ≡ Some d
-  pub low : f < descriptor_limit
+  pub low : f < most_descriptors k
   pub comes : ListsPipe k pipes d
   pub goes : (e : ℕ) → get (table_of k pid) f ≡ Some e → ListsPipe k pipes e
 
@@ -147,8 +158,11 @@ Fits chosen k (Name_file d x n) = IsFree k d x × CanBeLinked (kind_of k n) × (
 Fits chosen k (Unname_file d x n) = GivesLinked k d x n
 Fits chosen k (Unname_directory d x n) = Gives k d x n A_directory × (keys (names_of k n) ≡ [])
 Fits chosen k (Move d x e y n replaced) = CanMove k d x e y n replaced
+Fits chosen k (Swap d x n e y m) = CanSwap k d x n e y m
 Fits chosen k (Put_bytes n place bytes before) =
     (kind_of k n ≡ Some A_file) × (length (file_of k n) ≡ before)
+Fits chosen k (Wipe n place count) =
+    (kind_of k n ≡ Some A_file) × (place + count ≤ length (file_of k n))
 Fits chosen k (Cut n before after) = (kind_of k n ≡ Some A_file) × (length (file_of k n) ≡ before)
 Fits chosen k (Take p count) = (kind_of k p ≡ Some A_pipe) × (count ≤ length (pipe_of k p))
 Fits chosen k (Append p bytes) =
@@ -188,7 +202,7 @@ fixed_of k d = mapped (λ it. slot_of k d (Some it)) (get k.descriptions d)
 -- a process sees the same of itself in two states
 pub record OwnAlike (now later : Kernel) (pid : ℕ) : Type 0 where
   pub root : later.root ≡ now.root
-  pub largest : later.largest ≡ now.largest
+  pub bounds : later.bounds ≡ now.bounds
   pub table : table_of later pid ≡ table_of now pid
   pub fixed : (f d : ℕ) → get (table_of now pid) f ≡ Some d → fixed_of later d ≡ fixed_of now d
 

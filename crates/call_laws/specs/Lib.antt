@@ -7,4 +7,4 @@ pub mod Trees
 pub mod Fits
 pub mod Processes
 pub mod Untidied
-pub mod Largest
+pub mod Bounds

@@ -1,11 +1,15 @@
 -- A well-formed state of the plain kernel.
-use Rattle.std.specs.Prelude.{◌≡◌, ◌≢◌, ℕ, ◌≤◌, ◌<◌, List, [], ◌∷◌, Option, Some, None, ⊤, true}
+use Rattle.std.specs.Prelude.{◌≡◌, ◌≢◌, ℕ, ◌≤◌, ◌<◌, List, [], ◌∷◌, Option, Some, None, ⊤, true, min}
 use Rattle.model.specs.FiniteMap.{get}
 pub use Rattle.model.specs.Limits.{descriptor_limit}
 use Rattle.model.specs.State.{Name, Kind, Kernel, Description, A_file, A_directory, A_pipe, A_link}
 use Rattle.model.specs.State.{A_fifo, A_socket, Rights, kind_of, names_of, links}
 use Rattle.model.specs.Changes.{process_of}
 use Rattle.model.specs.Moments.{is_alive}
+
+-- how many descriptors a process of a kernel may have
+abbrev pub most_descriptors : Kernel → ℕ
+most_descriptors k = min k.bounds.descriptors descriptor_limit
 
 -- what may have several names: a file, or what never changes
 abbrev pub CanBeLinked : Option Kind → Type 0
@@ -54,10 +58,10 @@ pub record WellFormed (k : Kernel) : Type 0 where
       → d ≡ k.root
   -- directories are a tree: each that has a name is led to from the root
   pub leads : (d : ℕ) → IsRooted k d → (path : List Name) × Leads k k.root path d
-  -- each descriptor is below the limit and gives a description
+  -- each descriptor is below the kernel's own number of them and gives a description
   pub slots : (pid f d : ℕ) → get (process_of k pid).table f ≡ Some d
       → (it : Description) × (get k.descriptions d ≡ Some it)
-  pub low : (pid f d : ℕ) → get (process_of k pid).table f ≡ Some d → f < descriptor_limit
+  pub low : (pid f d : ℕ) → get (process_of k pid).table f ≡ Some d → f < most_descriptors k
   -- each description is of a file or a pipe
   pub descriptions : (d : ℕ) (it : Description) → get k.descriptions d ≡ Some it
       → CanBeOpened (kind_of k it.inode)

@@ -7,7 +7,7 @@
 
 ghost use Rattle.call_laws.specs.CallLaws.{CallLaws};
 ghost use Rattle.call_laws.specs.Exceptions.{ExceptionsAreNeeded};
-ghost use Rattle.call_laws.specs.Largest.{LargestStays};
+ghost use Rattle.call_laws.specs.Bounds.{BoundsStay};
 ghost use Rattle.call_laws.specs.Numbers.{UnusedNumbersAreNowhere, EveryCallCanBeMade};
 ghost use Rattle.call_laws.specs.Processes.{FirstProcessesLive};
 ghost use Rattle.call_laws.specs.Trees.{DirectoriesAreATree};
@@ -50,7 +50,7 @@ pub fn first_processes_live()
     ensures { FirstProcessesLive }
 {}
 
-/// Nothing changes the most bytes of a file. Proved in `proofs/Largest.antt`.
-pub fn the_largest_file_stays()
-    ensures { LargestStays }
+/// Nothing changes the bounds. Proved in `proofs/Bounds.antt`.
+pub fn the_bounds_stay()
+    ensures { BoundsStay }
 {}

@@ -1,9 +1,13 @@
 -- The offset that lseek comes to.
-use Rattle.std.proofs.Common.{◌≡◌, ℕ, ℤ, pos, negsuc, [], ◌∷◌, Bool, true, false, Option, Some, None, if◌then◌else◌, nat_lt, refl, ap, arith}
-use Rattle.model.specs.Plan.{Refuse, EINVAL, refuse_if, ◌>>◌}
+use Rattle.std.proofs.Common.{◌≡◌, ℕ, ℤ, pos, negsuc, List, [], ◌∷◌, Bool, true, false, Ok, Option, Some, None, if◌then◌else◌, nat_lt, refl, ap, arith}
+use Rattle.model.specs.State.{Kernel}
+use Rattle.model.specs.Plan.{Give, Refuse, EINVAL, refuse_if, ◌>>◌}
+use Rattle.model.specs.Steps.{Touch}
 use Rattle.model.specs.Calls.{Slot, New_place}
 use Rattle.model.specs.Changes.{Set_offset}
 use Rattle.model.specs.Plans.{changed, sought}
+use Rattle.look.specs.Asked.{Comes}
+use Rattle.walk.proofs.Laws.{gives, via}
 use Rattle.calls.specs.Parts.{offset_in}
 
 abbrev or_zero : Option ℕ → ℕ
@@ -29,3 +33,7 @@ sought_some largest it (negsuc n) m h = let e : false ≡ true = ap is_there h i
 pub sought_none : (largest : ℕ) (it : Slot) (sum : ℤ) → offset_in largest sum ≡ None → sought largest it sum ≡ Refuse EINVAL
 sought_none largest it (pos n) h = none_by it.description n (nat_lt largest n) h
 sought_none largest it (negsuc n) h = refl
+
+-- a plan gives a number, in other words
+pub gives_as : {k : Kernel} {x y : ℤ} {before : Option (List Touch)} → x ≡ y → Comes k (Give x) before (Ok y) before
+gives_as e = via (ap Give e) gives

@@ -1,9 +1,10 @@
 // The questions about files, pipes and descriptions, each with what it reads.
 ghost use Rattle.std.specs.Prelude.{◌≡◌, ◌+◌, ◌<◌, ◌≤◌};
-ghost use Rattle.std.specs.Prelude.{◌^◌, IfOk, OnOk, length, map};
-ghost use Rattle.ids.specs.declared.limits.TheConstants.{MOST_MOVED};
+ghost use Rattle.std.specs.Prelude.{◌^◌, IfOk, OnOk, length, map, min};
+ghost use Rattle.ids.specs.declared.limits.TheConstants.{LARGEST_FILE, MOST_MOVED};
 ghost use Rattle.model.specs.Aspects.{Block};
 ghost use Rattle.model.specs.Plan.{ask, Read_file, Count_ends, Find_offset, Read_pipe, Fit};
+ghost use Rattle.model.specs.Plan.{Pass_blocks};
 ghost use Rattle.model.specs.Plan.{blocks, rising};
 ghost use Rattle.look.specs.Asked.{Comes, noting};
 
@@ -36,6 +37,37 @@ fn read_blocks(reads: &mut Reads, file: Num, offset: u32, count: u32) -> Result<
         reads.add(Aspect::Block(file, first + more))?;
     }
     Ok(())
+}
+
+// Reads so many blocks of a file from one on.
+fn read_row(reads: &mut Reads, file: Num, first: u32, count: u32) -> Result<(), AllocError>
+    requires { first + count < 2 ^ 32 }
+    ensures { OnOk result (reads.new ≡ noting reads.old (map (Block file) (rising first count))) }
+{
+    for more in 0..count {
+        reads.add(Aspect::Block(file, first + more))?;
+    }
+    Ok(())
+}
+
+// How many blocks of a file from one on, so many at most, are holes, or are none. It reads them and
+// the one behind them.
+pub(crate) fn pass<L: Look>(
+    look: &L,
+    file: Num,
+    holes: bool,
+    blocks: (u32, u32),
+    reads: &mut Reads,
+) -> Result<u32, Refusal>
+    requires { blocks.0 + blocks.1 ≤ LARGEST_FILE }
+    ensures value { Comes (L.state look.now)
+        (ask (Pass_blocks holes file blocks.0 blocks.1)) reads.old result reads.new }
+    ensures small { IfOk result (λ passed. passed ≤ blocks.1) }
+{
+    let (first, count) = blocks;
+    let passed = look.pass(reads.heap(), file, holes, first, count)?;
+    read_row(reads, file, first, count.min(passed + 1))?;
+    Ok(passed)
 }
 
 // How many descriptors are open on a pipe.

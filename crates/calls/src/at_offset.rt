@@ -39,7 +39,7 @@ pub(crate) fn pread<L: Look>(
 }
 
 // The offset that a call names: there is none below 0.
-fn offset_named(offset: i64) -> Option<u64>
+pub(crate) fn offset_named(offset: i64) -> Option<u64>
     ensures { result ≡ offset_named offset }
 {
     if offset < 0 {

@@ -99,8 +99,7 @@ pub(crate) fn dup2<L: Look>(
         (plan (own_in (L.state look.now) pid) (Dup2 old new)) result }
 {
     let it = slot(look, pid, old)?;
-    // A descriptor is one of 0 to 63.
-    refuse_if(63 < new.0, Errno::EBADF)?;
+    refuse_if(look.open_limit() <= new.0, Errno::EBADF)?;
     if old == new {
         unchanged(heap, Answer::Fd(old))
     } else {

@@ -48,7 +48,7 @@ pub(crate) fn open<L: Look>(
     must_read_or_write(flags)?;
     must_create_to_exclude(flags)?;
     must_write_to_truncate(flags)?;
-    let path = parsed(reads.heap(), path)?;
+    let path = parsed(look, reads.heap(), path)?;
     let change = open_path(look, pid, flags, &path, reads);
     drop(path);
     change

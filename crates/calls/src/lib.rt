@@ -13,6 +13,7 @@ mod files;
 mod marks;
 mod own;
 mod plan;
+mod ranges;
 mod seek;
 
 pub use plan::{Plan, plan_of, plan_without_touches};

@@ -3,7 +3,7 @@ ghost use Rattle.std.specs.Prelude.{◌≡◌, ◌+◌, ◌<◌, ◌^◌, ◌++�
 ghost use Rattle.std.specs.List.{flat_map};
 ghost use Rattle.model.specs.Aspects.{Block, Ends, Entry, Links};
 ghost use Rattle.model.specs.Plan.{blocks};
-ghost use Rattle.model.specs.Changes.{marks, file_replaced, Put_bytes, Cut};
+ghost use Rattle.model.specs.Changes.{marks, file_replaced, Put_bytes, Wipe, Cut};
 ghost use Rattle.look.specs.Asked.{writing};
 
 use crate::asking::blocks_of;
@@ -103,6 +103,33 @@ fn mark_bytes(
     mark_blocks(file, offset, count, touches)
 }
 
+// Bytes of a file that become zero.
+fn mark_wiped(file: Num, offset: u32, count: u32, touches: &mut Touches) -> Result<(), AllocError>
+    ensures { OnOk result
+        (touches.new ≡ touches.old ++ writing (marks (Wipe file offset count))) }
+{
+    // For the proof: what a plan wipes ends below 2^32, which an edit alone does not say.
+    match offset.checked_add(count) {
+        Some(_) => mark_blocks(file, offset, count, touches),
+        None => Err(AllocError),
+    }
+}
+
+// Two names.
+fn mark_two(
+    dir: Num,
+    name: &Name,
+    other: Num,
+    other_name: &Name,
+    touches: &mut Touches,
+) -> Result<(), AllocError>
+    ensures { OnOk result (touches.new ≡ touches.old
+        ++ writing (Entry dir name.now ∷ Entry other other_name.now ∷ [])) }
+{
+    mark_entry(dir, name, touches)?;
+    mark_entry(other, other_name, touches)
+}
+
 // A file's length, before and after.
 fn mark_cut(file: Num, before: u32, after: u32, touches: &mut Touches) -> Result<(), AllocError>
     ensures { OnOk result
@@ -134,6 +161,18 @@ fn mark(edit: &Edit, touches: &mut Touches) -> Result<(), AllocError>
             replaced,
             ..
         } => mark_move(*from, old_name, *to, new_name, *replaced, touches),
+        Edit::Swap {
+            first,
+            first_name,
+            second,
+            second_name,
+            ..
+        } => mark_two(*first, first_name, *second, second_name, touches),
+        Edit::Wipe {
+            file,
+            offset,
+            count,
+        } => mark_wiped(*file, *offset, *count, touches),
         Edit::PutBytes {
             file,
             offset,

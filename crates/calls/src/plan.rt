@@ -9,13 +9,14 @@ use crate::at_offset::{pread, pwrite};
 use crate::descriptors::{close, dup, dup2, exit, fchmod, fchown, fork, fstat, pipe};
 use crate::files::{ftruncate, open, read, write};
 use crate::marks::mark_all;
+use crate::ranges::fallocate;
 use crate::seek::lseek;
 use heap::Heap;
 use ids::{Answer, Call, Edit, Errno, Pid, Refusal, Touch};
 use look::Look;
 use path_calls::{
-    Change, chmod, chown, link, list, lstat, mkdir, mknod, readlink, rename, rmdir, stat, symlink,
-    truncate, unlink,
+    Change, chmod, chown, exchange, link, list, lstat, mkdir, mknod, readlink, rename, rmdir, stat,
+    symlink, truncate, unlink,
 };
 use std::alloc::AllocError;
 use walk::Reads;
@@ -113,11 +114,15 @@ fn change_of<L: Look>(
         Call::Lseek(fd, by, whence) => lseek(look, pid, *fd, *by, *whence, reads),
         Call::Ftruncate(fd, length) => ftruncate(look, pid, *fd, *length, reads),
         Call::Truncate(path, length) => truncate(look, path, *length, reads),
+        Call::Fallocate(fd, offset, length, space) => {
+            fallocate(look, pid, *fd, *offset, *length, *space, reads)
+        }
         Call::Stat(path) => stat(look, path, reads),
         Call::Fstat(fd) => fstat(look, pid, *fd, reads),
         Call::Link(old, new) => link(look, old, new, reads),
         Call::Unlink(path) => unlink(look, path, reads),
         Call::Rename(old, new) => rename(look, old, new, reads),
+        Call::Exchange(old, new) => exchange(look, old, new, reads),
         Call::Mkdir(path) => mkdir(look, path, reads),
         Call::Rmdir(path) => rmdir(look, path, reads),
         Call::List(path) => list(look, path, reads),

@@ -1,19 +1,25 @@
 // The plan of lseek.
-ghost use Rattle.std.specs.Prelude.{◌≡◌, ℕ, ℤ, pos, ◌+ℤ◌};
-ghost use Rattle.model.specs.Plans.{plan, base, sought};
+ghost use Rattle.std.specs.Prelude.{◌≡◌, ◌+◌, ◌-◌, ◌/◌, ◌≤◌, ◌<◌, ◌&&◌, ℕ, ℤ, min, suc, not};
+ghost use Rattle.std.specs.Prelude.{nat_le};
+ghost use Rattle.ids.specs.declared.limits.TheConstants.{LARGEST_FILE};
+ghost use Rattle.model.specs.Holes.{behind_blocks};
+ghost use Rattle.model.specs.Limits.{block_length};
+ghost use Rattle.model.specs.Plan.{refuse_if, ENXIO};
+ghost use Rattle.model.specs.Plans.{plan, aimed, found_from, sought};
 ghost use Rattle.model.specs.Calls.{Lseek};
 ghost use Rattle.look.specs.Asked.{Comes, Tells};
 ghost use Rattle.look.specs.Shown.{own_in};
-ghost use Rattle.calls.specs.Parts.{offset_in};
+ghost use Rattle.calls.specs.Parts.{found_at, offset_in};
 
-use crate::asking::offset;
-use crate::checks::must_not_be_pipe;
+use crate::asking::{offset, pass};
+use crate::at_offset::offset_named;
+use crate::checks::{must_be_below, must_not_be_pipe};
 use crate::own::slot;
 use heap::Heap;
-use ids::{Answer, Edit, Errno, Fd, Pid, Refusal, Slot, Whence};
+use ids::{Answer, BLOCK_LEN, Edit, Errno, Fd, Num, Pid, Refusal, Slot, Whence};
 use look::Look;
-use path_calls::{Change, changed_by, size};
-use walk::Reads;
+use path_calls::{Change, changed_by, refuse_if, size};
+use walk::{Reads, or_refuse};
 
 pub(crate) fn lseek<L: Look>(
     look: &L,
@@ -28,22 +34,102 @@ pub(crate) fn lseek<L: Look>(
 {
     let it = slot(look, pid, fd)?;
     must_not_be_pipe(it.kind, Errno::ESPIPE)?;
-    let start = base(look, &it, whence, reads)?;
-    sought(
-        reads.heap(),
-        &it,
-        offset_of(look.largest(), start, distance),
-    )
+    let sum = aimed(look, &it, distance, whence, reads)?;
+    sought(reads.heap(), &it, offset_of(look.largest(), sum))
 }
 
-// From where it counts.
-fn base<L: Look>(look: &L, it: &Slot, whence: Whence, reads: &mut Reads) -> Result<u32, Refusal>
-    ensures { Comes (L.state look.now) (base it.now whence) reads.old result reads.new }
+// The offset that a whence and a distance come to.
+fn aimed<L: Look>(
+    look: &L,
+    it: &Slot,
+    distance: i64,
+    whence: Whence,
+    reads: &mut Reads,
+) -> Result<i128, Refusal>
+    ensures { Comes (L.state look.now) (aimed it.now distance whence) reads.old result reads.new }
 {
     match whence {
-        Whence::Set => Ok(0),
-        Whence::Cur => offset(look, it.description, reads),
-        Whence::End => size(look, it.inode, reads),
+        Whence::Set => Ok(i128::from(distance)),
+        Whence::Cur => {
+            let start = offset(look, it.description, reads)?;
+            Ok(i128::from(start) + i128::from(distance))
+        }
+        Whence::End => {
+            let end = size(look, it.inode, reads)?;
+            Ok(i128::from(end) + i128::from(distance))
+        }
+        Whence::Data => found_at(look, it.inode, false, distance, reads),
+        Whence::Hole => found_at(look, it.inode, true, distance, reads),
+    }
+}
+
+// The next place of a file that is in a hole, or in none, from an offset on that a call names.
+fn found_at<L: Look>(
+    look: &L,
+    file: Num,
+    holes: bool,
+    offset: i64,
+    reads: &mut Reads,
+) -> Result<i128, Refusal>
+    ensures { Comes (L.state look.now) (found_at holes file offset) reads.old result reads.new }
+{
+    let from = or_refuse(Errno::ENXIO, offset_named(offset))?;
+    let place = found_from(look, file, holes, from, reads)?;
+    Ok(i128::from(place))
+}
+
+// The same from a place on.
+fn found_from<L: Look>(
+    look: &L,
+    file: Num,
+    holes: bool,
+    from: u64,
+    reads: &mut Reads,
+) -> Result<u32, Refusal>
+    ensures { Comes (L.state look.now) (found_from holes file from) reads.old result reads.new }
+{
+    let size = size(look, file, reads)?;
+    must_be_below(from, size, Errno::ENXIO)?;
+    let from = from as u32;
+    let passed = pass(look, file, !holes, row(from, size), reads)?;
+    let place = behind_blocks(from, passed);
+    must_not_lack_data(holes, size, place)?;
+    Ok(within(size, place))
+}
+
+// Behind a file's end there is no data.
+fn must_not_lack_data(holes: bool, size: u32, place: u64) -> Result<(), Refusal>
+    ensures { Tells (refuse_if (not holes && nat_le size place) ENXIO) result }
+{
+    refuse_if(!holes && u64::from(size) <= place, Errno::ENXIO)
+}
+
+// The blocks of a file from a place on: the first of them, and how many there are.
+fn row(from: u32, size: u32) -> (u32, u32)
+    requires { from < size }
+    ensures first { result.0 ≡ from / block_length }
+    ensures count { result.1 ≡ suc ((size - 1) / block_length - from / block_length) }
+    ensures small { result.0 + result.1 ≤ LARGEST_FILE }
+{
+    let first = from / BLOCK_LEN as u32;
+    (first, (size - 1) / BLOCK_LEN as u32 - first + 1)
+}
+
+// A place of a file, or its end.
+fn within(size: u32, place: u64) -> u32
+    ensures { result ≡ min size place }
+{
+    u64::from(size).min(place) as u32
+}
+
+// From a place on, behind so many blocks.
+fn behind_blocks(from: u32, passed: u32) -> u64
+    ensures { result ≡ behind_blocks from passed }
+{
+    if passed == 0 {
+        u64::from(from)
+    } else {
+        (u64::from(from / BLOCK_LEN as u32) + u64::from(passed)) * BLOCK_LEN as u64
     }
 }
 
@@ -66,10 +152,9 @@ fn sought(heap: Heap, it: &Slot, found: Option<u32>) -> Result<Change, Refusal>
 }
 
 // The offset that a sum is, if a file may be so long.
-fn offset_of(largest: u32, start: u32, distance: i64) -> Option<u32>
-    ensures { result ≡ offset_in largest (pos start +ℤ distance) }
+fn offset_of(largest: u32, sum: i128) -> Option<u32>
+    ensures { result ≡ offset_in largest sum }
 {
-    let sum = i128::from(start) + i128::from(distance);
     if sum < 0 {
         None
     } else if sum > i128::from(largest) {

@@ -8,7 +8,7 @@ use Rattle.std.proofs.lemmas.List.{get_or_past}
 use Rattle.std.proofs.lemmas.List.Sums.{sum_by-cons}
 use Rattle.model.specs.Changes.{Edit}
 use Rattle.model.specs.Effects.{Effect}
-use Rattle.shadow.specs.Log.{effect}
+use Rattle.notes.specs.Log.{effect}
 use Rattle.commit.specs.Edits.{with_change}
 use Rattle.commit.specs.ProcessStates.{slot_view, views, slot_at, AreFirstSlots, Sets, weight}
 use Rattle.commit.specs.Views.{View, gone_slot, idle_slot, live_slot, doomed_slot, is_within, view_at}

@@ -3,8 +3,8 @@ ghost use Rattle.std.specs.Prelude.{◌≡◌, ◌+◌, ◌<◌, ◌≤◌, ◌+
 ghost use Rattle.std.specs.Prelude.{List, true, OnErr, OnOk};
 ghost use Rattle.shadow.specs.Claims.{AreUnused, Covers, HaveParents, KeepsMore, KeepsSame};
 ghost use Rattle.shadow.specs.Claims.{claimed_by};
-ghost use Rattle.shadow.specs.Log.{effect};
-ghost use Rattle.shadow.specs.Steps.{CanEdit};
+ghost use Rattle.notes.specs.Log.{effect};
+ghost use Rattle.notes.specs.Steps.{CanEdit};
 ghost use Rattle.ids.specs.declared.limits.TheConstants.{MAX_PROCESSES};
 ghost use Rattle.commit.specs.ProcessStates.{AreFirstSlots, Sets, slot_at, slot_view, views, weight};
 ghost use Rattle.commit.specs.Edits.{with_change};

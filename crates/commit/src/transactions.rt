@@ -6,9 +6,9 @@ ghost use Rattle.model.specs.Changes.{End_process, New_process, all_applied, app
 ghost use Rattle.model.specs.Effects.{all_done};
 ghost use Rattle.model.specs.Moments.{start};
 ghost use Rattle.shadow.specs.Claims.{HaveParents};
-ghost use Rattle.shadow.specs.Log.{effect};
+ghost use Rattle.notes.specs.Log.{effect};
 ghost use Rattle.shadow.specs.Looks.{DirectoriesAreKept};
-ghost use Rattle.shadow.specs.Steps.{CanEdit};
+ghost use Rattle.notes.specs.Steps.{CanEdit};
 ghost use Rattle.call_laws.specs.Fits.{Fits, FitsAll};
 ghost use Rattle.freeing_laws.specs.Sweep.{AllFit};
 ghost use Rattle.commit.specs.Dooming.{with_dooms};
@@ -24,7 +24,7 @@ use crate::process_state::{
 use crate::process_states::{ProcessStates, edit_slot, set_slot, take_slot};
 use contention::{Doomed, Twice};
 use heap::Heap;
-use ids::{Age, BeginFlags, Cause, Edit, Nums, Pid, Priority};
+use ids::{Age, BeginFlags, Bounds, Cause, Edit, Nums, Pid, Priority};
 use shadow::{Shadow, Stable, View};
 use std::alloc::AllocError;
 use std::marker::Model;
@@ -63,22 +63,22 @@ impl Model for Transactions {
 }
 
 impl Transactions {
-    /// The empty root, an idle process for each of these priorities, numbered from 1, and files of at
-    /// most so many bytes. Refused memory gives nothing.
+    /// The empty root, and an idle process for each of these priorities, numbered from 1, within these
+    /// bounds. Refused memory gives nothing.
     pub fn new(
         heap: Heap,
         priorities: &[Priority],
-        largest: u32,
+        bounds: Bounds,
     ) -> Result<Transactions, AllocError>
         requires few { length priorities.now ≤ MAX_PROCESSES }
-        requires small { largest ≤ LARGEST_FILE }
+        requires small { bounds.file_bytes ≤ LARGEST_FILE }
         ensures count { IfOk result (λ t. length t.slots ≡ suc (length priorities.now)) }
         ensures first { IfOk result (λ t. AreFirst t.slots (length priorities.now)) }
         ensures state { IfOk result (λ t. t.stable.state
-            ≡ start 0 (record { priorities = priorities.now; largest = largest })) }
+            ≡ start 0 (record { priorities = priorities.now; bounds = bounds })) }
     {
         let slots = ProcessStates::first(heap, priorities.len())?;
-        let stable = Stable::new(heap, priorities, largest)?;
+        let stable = Stable::new(heap, priorities, bounds)?;
         Ok(Transactions {
             heap,
             slots,

@@ -9,6 +9,7 @@ use Rattle.ids.specs.declared.call.Op.TheVariants as op
 use Rattle.ids.specs.declared.flags.BeginFlags.{BeginFlags}
 use Rattle.ids.specs.declared.flags.OpenFlags.{OpenFlags}
 use Rattle.ids.specs.declared.call.Call.{Call}
+use Rattle.ids.specs.declared.call.Whence.{Whence}
 use Rattle.ids.specs.declared.errno.Errno.TheVariants as errno
 use Rattle.ids.specs.declared.fixed.Special.{Special}
 use Rattle.ids.specs.declared.reply.Kind.{Kind}
@@ -32,7 +33,7 @@ use Rattle.course.specs.declared.updates.Update.{Update}
 use Rattle.course.specs.Course.{Course, Give, ◌>>=◌, step}
 use Rattle.course.specs.Faults.{begun_in, bytes_in, child_in, committed_in, count_in, done_in}
 use Rattle.course.specs.Faults.{fd_in, given_up_in, gives_none, is_abort, is_missing, is_there, names_in}
-use Rattle.course.specs.Faults.{stale_by, stat_in, unless_aborted, unless_special}
+use Rattle.course.specs.Faults.{place_in, stale_by, stat_in, unless_aborted, unless_special}
 use Rattle.course.specs.Rights.{both_of, has_set_ids, nobody, owner_in, rights_in}
 
 -- a call of a process
@@ -64,6 +65,11 @@ opening pid path flags = calling pid (call.Open path flags) >>= (λ r. Give (fd_
 abbrev pub reading : ℕ → ℕ → ℕ → ℤ → Course (Result (List ℕ) Fault)
 reading pid fd count offset =
     calling pid (call.Pread fd count offset) >>= (λ r. Give (bytes_in r))
+
+-- the offset that is found in a file
+abbrev pub placing : ℕ → ℕ → ℤ → Whence → Course (Result ℕ Fault)
+placing pid fd offset whence =
+    calling pid (call.Lseek fd offset whence) >>= (λ r. Give (place_in r))
 
 -- the target of the symbolic link of a path
 abbrev pub reading_target : ℕ → List ℕ → Course (Result (List ℕ) Fault)
@@ -185,6 +191,11 @@ IsOffset offset length = offset ≡ pos length
 abbrev pub appending : ℕ → ℕ → List ℕ → Course (Result ℕ Fault)
 appending pid fd bytes =
     stating pid (call.Fstat fd) >>= on_ok (λ stat. writing pid fd bytes (pos stat.size))
+
+-- Bytes that are read of a file, so many at most, are put into one.
+abbrev pub copying : ℕ → ℕ → ℕ → ℤ → ℕ → ℤ → Course (Result ℕ Fault)
+copying pid from count offset to place =
+    reading pid from count offset >>= on_ok (λ bytes. writing pid to bytes place)
 
 -- A descriptor is closed, for this error. After an abort there is nothing to close: what a
 -- transaction opened is gone with it.

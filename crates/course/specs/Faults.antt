@@ -17,8 +17,8 @@ fault_in reply.NoMemory = fault.NoMemory
 fault_in reply.HistoryFull = fault.NoMemory
 fault_in _ = fault.Unexpected
 
--- That a call is done, a descriptor, what an object is like, how many bytes were written, the bytes
--- that were read, the names of a directory, a child.
+-- That a call is done, a descriptor, what an object is like, how many bytes were written, an offset, the
+-- bytes that were read, the names of a directory, a child.
 abbrev pub done_in : Reply → Result (Unit {0}) Fault
 done_in (reply.Answer answer.Done) = Ok tt
 done_in r = Err (fault_in r)
@@ -34,6 +34,10 @@ stat_in r = Err (fault_in r)
 abbrev pub count_in : Reply → Result ℕ Fault
 count_in (reply.Answer (answer.Count count)) = Ok count
 count_in r = Err (fault_in r)
+
+abbrev pub place_in : Reply → Result ℕ Fault
+place_in (reply.Answer (answer.Place place)) = Ok place
+place_in r = Err (fault_in r)
 
 abbrev pub bytes_in : Reply → Result (List ℕ) Fault
 bytes_in (reply.Answer (answer.Bytes bytes)) = Ok bytes

@@ -1,7 +1,8 @@
 // What replies come to.
 ghost use Rattle.std.specs.Prelude.{◌≡◌};
 ghost use Rattle.course.specs.Faults.{begun_in, bytes_in, child_in, committed_in, count_in, done_in};
-ghost use Rattle.course.specs.Faults.{fault_in, fd_in, given_up_in, is_abort, names_in, stat_in};
+ghost use Rattle.course.specs.Faults.{fault_in, fd_in, given_up_in, is_abort, names_in, place_in};
+ghost use Rattle.course.specs.Faults.{stat_in};
 
 use heap::Heap;
 use ids::{Answer, Bytes, Errno, Fd, NameList, Pid, Reply, Stat, Why};
@@ -89,6 +90,16 @@ pub(crate) fn count_in(reply: Reply) -> Result<u32, Fault>
 {
     match &reply {
         Reply::Answer(Answer::Count(count)) => Ok(*count),
+        _ => Err(Fault::of_reply(reply)),
+    }
+}
+
+// The offset that was found.
+pub(crate) fn place_in(reply: Reply) -> Result<u32, Fault>
+    ensures { result ≡ place_in reply }
+{
+    match &reply {
+        Reply::Answer(Answer::Place(place)) => Ok(*place),
         _ => Err(Fault::of_reply(reply)),
     }
 }

@@ -3,18 +3,18 @@ ghost use Rattle.std.specs.Prelude.{◌≡◌};
 ghost use Rattle.ids.specs.declared.call.Call.TheVariants as asked;
 ghost use Rattle.course.specs.Hands.{bound};
 ghost use Rattle.course.specs.Course.{Ran};
-ghost use Rattle.course.specs.Courses.{appending, both, checking, closing, creating, doing};
+ghost use Rattle.course.specs.Courses.{appending, both, checking, closing, copying, creating, doing};
 ghost use Rattle.course.specs.Courses.{IsOffset, fresh, if_there, opening, opening_file, opening_this};
-ghost use Rattle.course.specs.Courses.{reading, seeing, seeing_new};
+ghost use Rattle.course.specs.Courses.{placing, reading, seeing, seeing_new};
 ghost use Rattle.course.specs.Courses.{closing_for, stating, writing};
 ghost use Rattle.course.specs.Faults.{is_special, is_there, unless_aborted, unless_special};
 
-use crate::fault::{Fault, bytes_in, count_in, fd_in};
+use crate::fault::{Fault, bytes_in, count_in, fd_in, place_in};
 use crate::hand::Hand;
 use crate::rights::both_of;
 use crate::updates::entitle_open;
 use heap::Heap;
-use ids::{Bytes, Call, Errno, Fd, Num, OpenFlags, Rights, Stat};
+use ids::{Bytes, Call, Errno, Fd, Num, OpenFlags, Rights, Space, Stat, Whence};
 use machine::Machine;
 
 /// A file that was opened.
@@ -320,4 +320,54 @@ pub fn append<K: Machine>(hand: &mut Hand<K>, fd: Fd, bytes: Bytes) -> Result<u3
 {
     let stat = hand.stat_call(Call::Fstat(fd))?;
     write(hand, fd, bytes, offset_of(stat.size))
+}
+
+/// Keeps a range of the file of a descriptor for it, or makes zeros of it.
+pub fn allocate<K: Machine>(
+    hand: &mut Hand<K>,
+    fd: Fd,
+    offset: i64,
+    length: i64,
+    space: Space,
+) -> Result<(), Fault>
+    ensures bound { bound hand.new ≡ bound hand.old }
+    ensures ran { Ran hand.old.shown
+        (doing hand.old.pid (asked.Fallocate fd offset length space)) result hand.new.shown }
+{
+    hand.do_call(Call::Fallocate(fd, offset, length, space))
+}
+
+/// The offset that is found in the file of a descriptor. The descriptor has it then, which nothing here
+/// goes by.
+pub fn seek<K: Machine>(
+    hand: &mut Hand<K>,
+    fd: Fd,
+    offset: i64,
+    whence: Whence,
+) -> Result<u32, Fault>
+    ensures bound { bound hand.new ≡ bound hand.old }
+    ensures ran { Ran hand.old.shown
+        (placing hand.old.pid fd offset whence) result hand.new.shown }
+{
+    let reply = hand.ask(Call::Lseek(fd, offset, whence));
+    place_in(reply)
+}
+
+/// Reads bytes of the file of a descriptor, so many at most, and puts them into that of another one. It
+/// gives how many it has put.
+pub fn copy<K: Machine>(
+    hand: &mut Hand<K>,
+    heap: Heap,
+    from: Fd,
+    count: u32,
+    offset: i64,
+    to: Fd,
+    place: i64,
+) -> Result<u32, Fault>
+    ensures bound { bound hand.new ≡ bound hand.old }
+    ensures ran { Ran hand.old.shown
+        (copying hand.old.pid from count offset to place) result hand.new.shown }
+{
+    let bytes = read(hand, heap, from, count, offset)?;
+    write(hand, to, bytes, place)
 }

@@ -72,6 +72,11 @@ impl<K: Machine> Hand<K> {
         self.since = Snapshot::of(&self.kernel);
     }
 
+    /// How many objects the kernel has. Contracts do not know it.
+    pub fn objects(&self) -> usize {
+        self.kernel.objects()
+    }
+
     /// The process.
     pub fn pid(&self) -> Pid
         ensures { result ≡ self.now.pid }

@@ -19,11 +19,13 @@ mod transactions;
 mod updates;
 
 pub use fault::Fault;
-pub use files::{Made, append, close, read, stat_file, write};
+pub use files::{Made, allocate, append, close, copy, read, seek, stat_file, write};
 pub use hand::Hand;
 pub use made::{Cut, close_spare, create_cut, cut_if, make_node, open_cut};
 pub use making::{Again, make_directory, make_link};
-pub use names::{Twice, link, list, look_up, move_name, read_link, remove_directory, unlink};
+pub use names::{
+    Twice, exchange, link, list, look_up, move_name, read_link, remove_directory, unlink,
+};
 pub use objects::{Object, find, list_at};
 pub use place::Place;
 pub use rights::permissions_in;

@@ -317,6 +317,42 @@ fn move_into<K: Machine>(
     move_at(hand, from, to, absent)
 }
 
+// Exchanges what two paths give, of which the second is one of this directory.
+fn exchange_into<K: Machine>(
+    hand: &mut Hand<K>,
+    first: Bytes,
+    place: Option<Place>,
+    second: Bytes,
+) -> Result<(), Fault>
+    ensures bound { bound hand.new ≡ bound hand.old }
+    ensures ran { Ran hand.old.shown
+        (inside hand.old.pid place (doing hand.old.pid (asked.Exchange first second)))
+        result hand.new.shown }
+{
+    check_place(hand, place)?;
+    hand.do_call(Call::Exchange(first, second))
+}
+
+/// Exchanges what a name of the first directory gives and what one of the second gives, by their paths,
+/// in one step. It is `Stale`, and both stay, where the path of one of the two directories gives another
+/// object, or none.
+pub fn exchange<K: Machine>(
+    hand: &mut Hand<K>,
+    place: Option<Place>,
+    first: Bytes,
+    new_place: Option<Place>,
+    second: Bytes,
+) -> Result<(), Fault>
+    ensures bound { bound hand.new ≡ bound hand.old }
+    ensures ran { Ran hand.old.shown
+        (inside hand.old.pid place
+        (inside hand.old.pid new_place (doing hand.old.pid (asked.Exchange first second))))
+        result hand.new.shown }
+{
+    check_place(hand, place)?;
+    exchange_into(hand, first, new_place, second)
+}
+
 /// Moves what a name of the first directory gives to a name of the second one, by their paths. The last
 /// path is the second one once more: where it is given, nothing may stand there. It is `Stale`, and
 /// nothing is moved, where the path of one of the two directories gives another object, or none.

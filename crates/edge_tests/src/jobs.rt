@@ -9,7 +9,10 @@ use runner::run_job;
 use std::alloc::AllocError;
 use std::sync::Wait;
 use std::thread::Threads;
-use words::{DEFAULT_FILE_LIMIT, Job, MAX_FILE_LIMIT, MAX_LIMIT, Way};
+use words::{
+    DEFAULT_DESCRIPTORS, DEFAULT_FILE_LIMIT, DEFAULT_PATH_LIMIT, Job, MAX_FILE_LIMIT, MAX_LIMIT,
+    Way,
+};
 
 // A schedule, or none for a run by threads, the limit, how many bytes the standard output takes, and
 // what is expected of the program: its status, and what it writes on standard output and on standard
@@ -38,6 +41,8 @@ pub(crate) fn job_of(heap: Heap, expected: &Expected, check: bool) -> Result<Job
         way: way_of(heap, expected.list)?,
         limit: expected.limit.min(100),
         file_limit: DEFAULT_FILE_LIMIT,
+        descriptors: DEFAULT_DESCRIPTORS,
+        path_limit: DEFAULT_PATH_LIMIT,
         check,
         file: String::new(heap),
     })

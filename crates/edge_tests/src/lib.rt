@@ -8,6 +8,8 @@ mod halting;
 #[cfg(test)]
 mod jobs;
 #[cfg(test)]
+mod of_bounds;
+#[cfg(test)]
 mod of_device;
 #[cfg(test)]
 mod of_failures;

@@ -77,7 +77,7 @@ static HEADS: [(&[u8], ScriptFault); 31] = [
 ];
 
 // Second lines of texts that are no scripts.
-static LINES: [(&[u8], ScriptFault); 96] = [
+static LINES: [(&[u8], ScriptFault); 101] = [
     (b" ", ScriptFault::ProcessExpected(2)),
     (b"0", ScriptFault::ProcessExpected(2)),
     (b"0 stat /", ScriptFault::ProcessExpected(2)),
@@ -136,6 +136,11 @@ static LINES: [(&[u8], ScriptFault); 96] = [
     (b"1 lseek 0 --1 SET", ScriptFault::BadArguments(2)),
     (b"1 lseek 0 - SET", ScriptFault::BadArguments(2)),
     (b"1 lseek 0 01 SET", ScriptFault::BadArguments(2)),
+    (b"1 lseek 0 0 DATA ", ScriptFault::BadArguments(2)),
+    (b"1 fallocate 0 0 1 ", ScriptFault::BadArguments(2)),
+    (b"1 fallocate 0 0 --1 KEEP", ScriptFault::BadArguments(2)),
+    (b"1 fallocate 0 0 1 PUNCH\xff", ScriptFault::BadArguments(2)),
+    (b"1 exchange /a  /b", ScriptFault::BadArguments(2)),
     (b"1 open /a RDWR,,CREAT", ScriptFault::BadArguments(2)),
     (b"1 open /a rdwr", ScriptFault::BadArguments(2)),
     (b"1 open /a", ScriptFault::BadArguments(2)),
@@ -247,11 +252,14 @@ static ALL: &str = "priorities 0 7
 1 lseek 0 -1 END
 1 ftruncate 0 5
 1 truncate /a 5
+1 fallocate 0 1024 3 PUNCH
+1 lseek 0 1 HOLE
 1 stat /
 1 fstat 0
 1 link /a /b
 1 unlink /b
 1 rename /a /b
+1 exchange /a /b
 1 mkdir /c
 1 rmdir /c
 1 list /

@@ -114,7 +114,7 @@ fn is_op(alloc: Global, heap: Heap, words: &str, op: &str) -> bool {
     }
 }
 
-static OPERATIONS: [(&str, &str); 51] = [
+static OPERATIONS: [(&str, &str); 57] = [
     (
         "open /a -",
         "Call(Open(Bytes { bytes: [47, 97] }, OpenFlags(0)))",
@@ -165,6 +165,8 @@ static OPERATIONS: [(&str, &str); 51] = [
     ),
     ("lseek 0 -17 CUR", "Call(Lseek(Fd(0), -17, Cur))"),
     ("lseek 0 0 END", "Call(Lseek(Fd(0), 0, End))"),
+    ("lseek 0 -1 DATA", "Call(Lseek(Fd(0), -1, Data))"),
+    ("lseek 0 7 HOLE", "Call(Lseek(Fd(0), 7, Hole))"),
     (
         "ftruncate 0 4294967295",
         "Call(Ftruncate(Fd(0), 4294967295))",
@@ -172,6 +174,15 @@ static OPERATIONS: [(&str, &str); 51] = [
     (
         "truncate /a 4294967295",
         "Call(Truncate(Bytes { bytes: [47, 97] }, 4294967295))",
+    ),
+    (
+        "fallocate 4294967295 -9223372036854775808 9223372036854775807 GROW",
+        "Call(Fallocate(Fd(4294967295), -9223372036854775808, 9223372036854775807, Grow))",
+    ),
+    ("fallocate 0 1 2 KEEP", "Call(Fallocate(Fd(0), 1, 2, Keep))"),
+    (
+        "fallocate 0 0 0 PUNCH",
+        "Call(Fallocate(Fd(0), 0, 0, Punch))",
     ),
     ("stat /", "Call(Stat(Bytes { bytes: [47] }))"),
     ("fstat 0", "Call(Fstat(Fd(0)))"),
@@ -183,6 +194,10 @@ static OPERATIONS: [(&str, &str); 51] = [
     (
         "rename /a /b",
         "Call(Rename(Bytes { bytes: [47, 97] }, Bytes { bytes: [47, 98] }))",
+    ),
+    (
+        "exchange /a /b",
+        "Call(Exchange(Bytes { bytes: [47, 97] }, Bytes { bytes: [47, 98] }))",
     ),
     ("mkdir /a", "Call(Mkdir(Bytes { bytes: [47, 97] }))"),
     ("rmdir /a", "Call(Rmdir(Bytes { bytes: [47, 97] }))"),
@@ -250,7 +265,7 @@ static OPERATIONS: [(&str, &str); 51] = [
 ];
 
 // Operations with arguments that they do not take.
-static REFUSED: [&str; 99] = [
+static REFUSED: [&str; 112] = [
     "read 0 1048577",
     "read 00 1",
     "read +0 1",
@@ -275,6 +290,17 @@ static REFUSED: [&str; 99] = [
     "lseek 0 9223372036854775808 SET",
     "lseek 0 -9223372036854775809 SET",
     "lseek 0 0 set",
+    "lseek 0 0 data",
+    "lseek 0 0 HOLES",
+    "lseek 0 DATA",
+    "fallocate 0 0 1",
+    "fallocate 0 0 1 ",
+    "fallocate 0 0 1 grow",
+    "fallocate 0 0 1 SET",
+    "fallocate 0 0 1 GROW PUNCH",
+    "fallocate 0 -0 1 KEEP",
+    "fallocate 0 0 9223372036854775808 PUNCH",
+    "fallocate 4294967296 0 1 PUNCH",
     "open /a",
     "open /a RDONLY,",
     "open /a -,CREAT",
@@ -296,6 +322,8 @@ static REFUSED: [&str; 99] = [
     "truncate /a",
     "truncate /a 0 0",
     "dup2 0",
+    "exchange /a",
+    "exchange /a /b /c",
     "link /a",
     "link /a /b /c",
     "symlink",

@@ -9,7 +9,7 @@ use kernel::Kernel;
 use runner::run_stream_job;
 use std::alloc::AllocError;
 use std::test::Fail;
-use words::{DEFAULT_FILE_LIMIT, StreamJob};
+use words::{DEFAULT_DESCRIPTORS, DEFAULT_FILE_LIMIT, DEFAULT_PATH_LIMIT, StreamJob};
 
 // What comes in, how many entries are kept, whether they are checked, how many bytes the standard
 // output takes, and what is expected: the status, and both outputs.
@@ -30,6 +30,8 @@ fn job_of(talk: &Talk) -> StreamJob
     StreamJob {
         limit: talk.limit.min(100),
         file_limit: DEFAULT_FILE_LIMIT,
+        descriptors: DEFAULT_DESCRIPTORS,
+        path_limit: DEFAULT_PATH_LIMIT,
         check: talk.check,
     }
 }
@@ -320,6 +322,8 @@ fn is_answered_before_read(heap: Heap, reads: usize) -> bool {
     let job = StreamJob {
         limit: 10,
         file_limit: DEFAULT_FILE_LIMIT,
+        descriptors: DEFAULT_DESCRIPTORS,
+        path_limit: DEFAULT_PATH_LIMIT,
         check: true,
     };
     let status = run_stream_job::<Kernel, _, _, _>(heap, job, &mut source, &mut out, &mut err);
@@ -381,6 +385,8 @@ fn lines_that_come_together_are_answered_by_one_write(rt: HostRuntime) -> Result
     let job = StreamJob {
         limit: 1000,
         file_limit: DEFAULT_FILE_LIMIT,
+        descriptors: DEFAULT_DESCRIPTORS,
+        path_limit: DEFAULT_PATH_LIMIT,
         check: false,
     };
     let status = run_stream_job::<Kernel, _, _, _>(heap, job, &mut source, &mut out, &mut err);
@@ -412,6 +418,8 @@ fn long_line_is(heap: Heap, len: usize, status: u8, out: &str) -> Result<bool, F
     let job = StreamJob {
         limit: 10,
         file_limit: DEFAULT_FILE_LIMIT,
+        descriptors: DEFAULT_DESCRIPTORS,
+        path_limit: DEFAULT_PATH_LIMIT,
         check: false,
     };
     let found = run_stream_job::<Kernel, _, _, _>(heap, job, &mut source, &mut sink, &mut err);
@@ -443,6 +451,8 @@ fn refused_at(heap: Heap, sinks: Heap, number: u64) -> (u8, Vec<u8, Heap>) {
     let job = StreamJob {
         limit: 2,
         file_limit: DEFAULT_FILE_LIMIT,
+        descriptors: DEFAULT_DESCRIPTORS,
+        path_limit: DEFAULT_PATH_LIMIT,
         check: true,
     };
     let status = run_stream_job::<Kernel, _, _, _>(heap, job, &mut source, &mut out, &mut err);

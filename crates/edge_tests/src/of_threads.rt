@@ -12,7 +12,10 @@ use runner::{RunFault, run_job, run_script_by_threads};
 use std::sync::Wait;
 use std::test::Fail;
 use std::thread::Threads;
-use words::{DEFAULT_FILE_LIMIT, Job, MAX_FILE_LIMIT, MAX_LIMIT, Way};
+use words::{
+    DEFAULT_DESCRIPTORS, DEFAULT_FILE_LIMIT, DEFAULT_PATH_LIMIT, Job, MAX_FILE_LIMIT, MAX_LIMIT,
+    Way,
+};
 
 static FAMILY: &str = "priorities 0\n1 mkdir /a\n1 fork\n2 stat /a\n";
 
@@ -261,6 +264,8 @@ fn checked_job(heap: Heap) -> Job
         way: Way::Threads,
         limit: 10_000,
         file_limit: DEFAULT_FILE_LIMIT,
+        descriptors: DEFAULT_DESCRIPTORS,
+        path_limit: DEFAULT_PATH_LIMIT,
         check: true,
         file: String::new(heap),
     }

@@ -72,6 +72,12 @@ static SCRIPT: &str = "priorities 0
 3 pread 0 5 9223372036854775807
 3 readlink /a
 3 list /a
+3 exchange /a /\\x20
+3 fallocate 4294967295 -9223372036854775808 9223372036854775807 GROW
+3 fallocate 0 0 1 KEEP
+3 fallocate 1 17 1 PUNCH
+3 lseek 0 0 DATA
+3 lseek 0 -1 HOLE
 4096 end
 ";
 
@@ -134,7 +140,13 @@ static TRANSCRIPT: &str = "1 P1 begin -> begun
 56 P3 pread 0 5 9223372036854775807 -> 0 \\e
 57 P3 readlink /a -> 4 ../a
 58 P3 list /a -> names 2 a b\\x20c
-59 P4096 end -> busy entry a write by P9 dooms P1,P4096
+59 P3 exchange /a /\\x20 -> ok
+60 P3 fallocate 4294967295 -9223372036854775808 9223372036854775807 GROW -> EINVAL
+61 P3 fallocate 0 0 1 KEEP -> ok
+62 P3 fallocate 1 17 1 PUNCH -> ESPIPE
+63 P3 lseek 0 0 DATA -> 1024
+64 P3 lseek 0 -1 HOLE -> ENXIO
+65 P4096 end -> busy entry a write by P9 dooms P1,P4096
 ";
 
 // A status with these rights.
@@ -248,18 +260,28 @@ fn names(heap: Heap) -> Result<NameList, AllocError> {
     Ok(NameList::new(names))
 }
 
-// The other replies.
-fn replies_with_memory(heap: Heap) -> Result<[Reply; 5], AllocError> {
+// The replies to an exchange, and to what is asked of ranges of a file.
+fn replies_of_ranges() -> [Reply; 6] {
+    [
+        Reply::Answer(Answer::Done),
+        Reply::Errno(Errno::EINVAL),
+        Reply::Answer(Answer::Done),
+        Reply::Errno(Errno::ESPIPE),
+        Reply::Answer(Answer::Place(1024)),
+        Reply::Errno(Errno::ENXIO),
+    ]
+}
+
+// The replies that tell bytes or names.
+fn replies_with_memory(heap: Heap) -> Result<[Reply; 4], AllocError> {
     let bytes = Bytes::copy(heap, b"a\n")?;
     let target = Bytes::copy(heap, b"../a")?;
     let names = names(heap)?;
-    let entry = Aspect::Entry(Num(1), Name::copy(heap, b"a")?);
     Ok([
         Reply::Answer(Answer::Bytes(bytes)),
         Reply::Answer(Answer::Bytes(Bytes::new(Vec::new(heap)))),
         Reply::Answer(Answer::Bytes(target)),
         Reply::Answer(Answer::Names(names)),
-        Reply::Busy(cause(entry, true)),
     ])
 }
 
@@ -277,6 +299,9 @@ fn replies(heap: Heap) -> Result<Vec<Reply, Heap>, AllocError> {
     let mut replies = Vec::from_array(heap, plain_replies())?;
     replies.append(&mut Vec::from_array(heap, replies_of_rights())?)?;
     replies.append(&mut Vec::from_array(heap, replies_with_memory(heap)?)?)?;
+    replies.append(&mut Vec::from_array(heap, replies_of_ranges())?)?;
+    let entry = Aspect::Entry(Num(1), Name::copy(heap, b"a")?);
+    replies.push(Reply::Busy(cause(entry, true)))?;
     Ok(replies)
 }
 

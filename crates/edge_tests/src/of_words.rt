@@ -22,12 +22,12 @@ fn is_as_expected(alloc: Global, heap: Heap, line: &str, status: u8, expected: &
 
 // Command lines, each with its status and job, or how the text of its fault begins. Before each the
 // request of memory that is refused: one is made for a schedule, and one for the file.
-static LINES: [(u64, &str, u8, &str); 43] = [
+static LINES: [(u64, &str, u8, &str); 51] = [
     (
         0,
         "txsh --schedule 1,1,2,1,2 run.tx",
         0,
-        "Job { way: Schedule(\"1,1,2,1,2\"), limit: 65536, file_limit: 1048576, check: false, file: \"run.tx\" }",
+        "Job { way: Schedule(\"1,1,2,1,2\"), limit: 65536, file_limit: 1048576, descriptors: 64, path_limit: 1024, check: false, file: \"run.tx\" }",
     ),
     (1, "txsh --schedule 1,1,2,1,2 run.tx", 3, "no memory"),
     (2, "txsh --schedule 1,1,2,1,2 run.tx", 3, "no memory"),
@@ -35,19 +35,19 @@ static LINES: [(u64, &str, u8, &str); 43] = [
         3,
         "txsh --schedule 1,1,2,1,2 run.tx",
         0,
-        "Job { way: Schedule(\"1,1,2,1,2\"), limit: 65536, file_limit: 1048576, check: false, file: \"run.tx\" }",
+        "Job { way: Schedule(\"1,1,2,1,2\"), limit: 65536, file_limit: 1048576, descriptors: 64, path_limit: 1024, check: false, file: \"run.tx\" }",
     ),
     (
         0,
         "txsh --limit 1048576 --schedule  run.tx",
         0,
-        "Job { way: Schedule(\"\"), limit: 1048576, file_limit: 1048576, check: false, file: \"run.tx\" }",
+        "Job { way: Schedule(\"\"), limit: 1048576, file_limit: 1048576, descriptors: 64, path_limit: 1024, check: false, file: \"run.tx\" }",
     ),
     (
         0,
         "txsh --schedule=1 --limit=0 run.tx",
         0,
-        "Job { way: Schedule(\"1\"), limit: 0, file_limit: 1048576, check: false, file: \"run.tx\" }",
+        "Job { way: Schedule(\"1\"), limit: 0, file_limit: 1048576, descriptors: 64, path_limit: 1024, check: false, file: \"run.tx\" }",
     ),
     (
         0,
@@ -67,27 +67,27 @@ static LINES: [(u64, &str, u8, &str); 43] = [
         0,
         "txsh --schedule=1 --check run.tx",
         0,
-        "Job { way: Schedule(\"1\"), limit: 65536, file_limit: 1048576, check: true, file: \"run.tx\" }",
+        "Job { way: Schedule(\"1\"), limit: 65536, file_limit: 1048576, descriptors: 64, path_limit: 1024, check: true, file: \"run.tx\" }",
     ),
     (0, "txsh --schedule=1 --check=yes run.tx", 2, "error: "),
     (
         0,
         "txsh --threads run.tx",
         0,
-        "Job { way: Threads, limit: 65536, file_limit: 1048576, check: false, file: \"run.tx\" }",
+        "Job { way: Threads, limit: 65536, file_limit: 1048576, descriptors: 64, path_limit: 1024, check: false, file: \"run.tx\" }",
     ),
     (1, "txsh --threads run.tx", 3, "no memory"),
     (
         2,
         "txsh --threads run.tx",
         0,
-        "Job { way: Threads, limit: 65536, file_limit: 1048576, check: false, file: \"run.tx\" }",
+        "Job { way: Threads, limit: 65536, file_limit: 1048576, descriptors: 64, path_limit: 1024, check: false, file: \"run.tx\" }",
     ),
     (
         0,
         "txsh --check --limit=7 --threads run.tx",
         0,
-        "Job { way: Threads, limit: 7, file_limit: 1048576, check: true, file: \"run.tx\" }",
+        "Job { way: Threads, limit: 7, file_limit: 1048576, descriptors: 64, path_limit: 1024, check: true, file: \"run.tx\" }",
     ),
     (
         0,
@@ -103,25 +103,25 @@ static LINES: [(u64, &str, u8, &str); 43] = [
         0,
         "txsh --schedule=1 --file-limit 5 run.tx",
         0,
-        "Job { way: Schedule(\"1\"), limit: 65536, file_limit: 5, check: false, file: \"run.tx\" }",
+        "Job { way: Schedule(\"1\"), limit: 65536, file_limit: 5, descriptors: 64, path_limit: 1024, check: false, file: \"run.tx\" }",
     ),
     (
         0,
         "txsh --file-limit=1 --threads run.tx",
         0,
-        "Job { way: Threads, limit: 65536, file_limit: 1, check: false, file: \"run.tx\" }",
+        "Job { way: Threads, limit: 65536, file_limit: 1, descriptors: 64, path_limit: 1024, check: false, file: \"run.tx\" }",
     ),
     (
         0,
         "txsh --threads run.tx --file-limit 2147483647",
         0,
-        "Job { way: Threads, limit: 65536, file_limit: 2147483647, check: false, file: \"run.tx\" }",
+        "Job { way: Threads, limit: 65536, file_limit: 2147483647, descriptors: 64, path_limit: 1024, check: false, file: \"run.tx\" }",
     ),
     (
         0,
         "txsh --check --limit 9 --schedule 1,1 --file-limit 007 run.tx",
         0,
-        "Job { way: Schedule(\"1,1\"), limit: 9, file_limit: 7, check: true, file: \"run.tx\" }",
+        "Job { way: Schedule(\"1,1\"), limit: 9, file_limit: 7, descriptors: 64, path_limit: 1024, check: true, file: \"run.tx\" }",
     ),
     (
         0,
@@ -168,18 +168,57 @@ static LINES: [(u64, &str, u8, &str); 43] = [
         2,
         "exactly one of --schedule, --threads and --stream",
     ),
+    // The number of descriptors and the longest path.
+    (
+        0,
+        "txsh --schedule=1 --descriptors 65 --path-limit=4096 run.tx",
+        0,
+        "Job { way: Schedule(\"1\"), limit: 65536, file_limit: 1048576, descriptors: 65, path_limit: 4096, check: false, file: \"run.tx\" }",
+    ),
+    (
+        0,
+        "txsh --descriptors=1048576 --stream --path-limit 1",
+        0,
+        "StreamJob { limit: 65536, file_limit: 1048576, descriptors: 1048576, path_limit: 1, check: false }",
+    ),
+    (
+        0,
+        "txsh --threads --descriptors 0 run.tx",
+        2,
+        "error: invalid value '0'",
+    ),
+    (
+        0,
+        "txsh --threads --descriptors=1048577 run.tx",
+        2,
+        "error: invalid value '1048577'",
+    ),
+    (
+        0,
+        "txsh --threads --path-limit=4097 run.tx",
+        2,
+        "error: invalid value '4097'",
+    ),
+    (
+        0,
+        "txsh --threads --path-limit 0 run.tx",
+        2,
+        "error: invalid value '0'",
+    ),
+    (0, "txsh --threads run.tx --descriptors", 2, "error: "),
+    (0, "txsh --threads --path_limit 5 run.tx", 2, "error: "),
     // Lines as they come take no memory for a name.
     (
         1,
         "txsh --stream",
         0,
-        "StreamJob { limit: 65536, file_limit: 1048576, check: false }",
+        "StreamJob { limit: 65536, file_limit: 1048576, descriptors: 64, path_limit: 1024, check: false }",
     ),
     (
         0,
         "txsh --check --file-limit 5 --stream --limit=0",
         0,
-        "StreamJob { limit: 0, file_limit: 5, check: true }",
+        "StreamJob { limit: 0, file_limit: 5, descriptors: 64, path_limit: 1024, check: true }",
     ),
     (0, "txsh --stream run.tx", 2, "no FILE goes with --stream"),
     (0, "txsh --stream=1", 2, "error: "),

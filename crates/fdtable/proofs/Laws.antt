@@ -1,11 +1,16 @@
 -- What a table gives after one change of it, and a row of places as the entries of its map.
-use Rattle.std.proofs.Common.{◌≡◌, ◌≢◌, ℕ, suc, ◌≤◌, ◌<◌, List, [], ◌∷◌, length, Option, Some, None, nat_cmp, Less, refl, sym, ap, ◌∙◌, arith}
+use Rattle.std.proofs.Common.{Bool, true, false, not, ◌≡◌, ◌≢◌, ℕ, suc, ◌<◌, List, [], ◌∷◌, Option, Some, None, nat_cmp, Less, refl, sym, ap, ◌∙◌, arith}
 use Rattle.std.specs.FinMap.Entries.{by_order}
 use Rattle.std.specs.Cmp.{nat_cmp_total, nat_cmp_is}
 use Rattle.model.specs.FiniteMap.{FinMap, entries, put, get, from_entries, entries-empty, entries-insert}
 use Rattle.model.specs.Places.{placed}
 use Rattle.model.proofs.Laws.{get_same, get_other, removed_same, removed_other}
 use Rattle.fdtable.specs.Patches.{laid_at, or_before}
+
+-- one is the other's negation
+pub flip : (s b : Bool) → s ≡ not b → b ≡ not s
+flip s true e = sym (ap not e)
+flip s false e = sym (ap not e)
 
 -- the changed descriptor
 pub laid_same : (f : ℕ) (g : Option (Option ℕ)) (table : FinMap nat_cmp ℕ) → get (laid_at f g table) f ≡ or_before g (get table f)
@@ -20,6 +25,11 @@ laid_other f (Some None) table q away = removed_other table f q away
 laid_other f None table q away = refl
 
 module _ {X : Type 0} where
+  -- what is not there is nothing
+  pub none_unless : (o : Option X) → (o ≢ None → ⊥) → o ≡ None
+  none_unless None never = refl
+  none_unless (Some x) never = absurd (never (λ e. absurd cc))
+
   put_first : (k first : ℕ) (v : X) (xs : List (Option X)) → k < first → put nat_cmp k v (placed first xs) ≡ (k, v) ∷ placed first xs
   put_first k first v [] low = refl
   put_first k first v (None ∷ xs) low = put_first k (suc first) v xs (omega arith)
@@ -34,9 +44,3 @@ module _ {X : Type 0} where
   entries-placed first (Some x ∷ xs) =
       entries-insert nat_cmp_total (from_entries (placed (suc first) xs)) first x ∙ ap (put nat_cmp first x) (entries-placed (suc first) xs)
       ∙ put_first first (suc first) x xs (omega arith)
-
-  -- no more are taken than there are
-  pub placed_few : (first : ℕ) (xs : List (Option X)) → length (placed first xs) ≤ length xs
-  placed_few first [] = omega arith
-  placed_few first (None ∷ xs) = let rest = placed_few (suc first) xs in omega arith
-  placed_few first (Some x ∷ xs) = let rest = placed_few (suc first) xs in omega arith

@@ -4,12 +4,14 @@ use Rattle.std.specs.Prelude.{count_by}
 use Rattle.std.proofs.Common.{Bool, true, false, cond, map, ◌==◌}
 use Rattle.std.proofs.lemmas.Bool.{cases_eq, cases_lt}
 use Rattle.std.proofs.lemmas.List.Sums.{sum_by-cons}
-use Rattle.model.specs.FiniteMap.{FinMap, entries, get, from_entries}
+use Rattle.std.proofs.lemmas.List.{get_or_past}
+use Rattle.std.specs.Cmp.{nat_cmp_total}
+use Rattle.model.specs.FiniteMap.{FinMap, entries, get, from_entries, same_map, nat_cmp-IsAntisymmetric}
 use Rattle.model.specs.Places.{placed}
 use Rattle.model.proofs.Laws.{get-placed}
 use Rattle.fdtable.specs.Open.{one_if}
 use Rattle.fdtable.specs.Patches.{Given, IsLaid, laid_at, or_before}
-use Rattle.fdtable.proofs.Laws.{entries-placed, laid_same, laid_other}
+use Rattle.fdtable.proofs.Laws.{entries-placed, laid_other, laid_same, none_unless}
 
 abbrev pub in_front : ℕ → Option ℕ → List (ℕ × ℕ) → List (ℕ × ℕ)
 in_front f (Some d) es = (f, d) ∷ es
@@ -42,6 +44,39 @@ pub open_all : (xs : List (Option ℕ)) → open_from (from_entries (placed 0 xs
 open_all xs =
     open_placed (from_entries (placed 0 xs)) 0 xs (λ i. let same : 0 + i ≡ i = omega arith in ap (get (from_entries (placed 0 xs))) same ∙ get-placed xs i)
     ∙ sym (entries-placed 0 xs)
+
+-- of any table below a number behind which nothing is open
+abbrev row : FinMap nat_cmp ℕ → ℕ → ℕ → List (Option ℕ)
+row m first zero = []
+row m first (suc more) = get m first ∷ row m (suc first) more
+
+row_long : (m : FinMap nat_cmp ℕ) (first more : ℕ) → length (row m first more) ≡ more
+row_long m first zero = refl
+row_long m first (suc more) = ap suc (row_long m (suc first) more)
+
+row_at : (m : FinMap nat_cmp ℕ) (first more i : ℕ) → i < more → get_or (row m first more) i None ≡ get m (first + i)
+row_at m first zero i low = absurd (omega (arith, low))
+row_at m first (suc more) zero low = let same : first ≡ first + 0 = omega arith in ap (get m) same
+row_at m first (suc more) (suc i) low = let next : suc first + i ≡ first + suc i = omega arith in row_at m (suc first) more i (omega (arith, low)) ∙ ap (get m) next
+
+row_is : (m : FinMap nat_cmp ℕ) (end : ℕ) → ((f : ℕ) → end ≤ f → get m f ≡ None) → from_entries (placed 0 (row m 0 end)) ≡ m
+row_is m end none = same_map nat_cmp_total nat_cmp-IsAntisymmetric _ _ (λ f. get-placed (row m 0 end) f ∙ elim (cases_lt f end) [
+  | inl low ↦ row_at m 0 end f low ∙ (let same : 0 + f ≡ f = omega arith in ap (get m) same)
+  | inr past ↦ get_or_past (row m 0 end) f None (let long : length (row m 0 end) ≡ end = row_long m 0 end in omega (arith, long, past)) ∙ sym (none f past)
+])
+
+pub all_open : (m : FinMap nat_cmp ℕ) (end : ℕ) → ((f : ℕ) → end ≤ f → get m f ≡ None) → open_from m 0 end ≡ entries m
+all_open m end none =
+    ap (open_from m 0) (sym (row_long m 0 end)) ∙ ap (λ n. open_from n 0 (length (row m 0 end))) (sym (row_is m end none))
+    ∙ open_all (row m 0 end) ∙ ap entries (row_is m end none)
+
+-- what is not open below this number is nowhere open
+pub none_behind : (m : FinMap nat_cmp ℕ) (end : ℕ) → ((f : ℕ) → get m f ≢ None → f < end) → (f : ℕ) → end ≤ f → get m f ≡ None
+none_behind m end all f past = none_unless (get m f) (λ some. omega (arith, all f some, past))
+
+-- all that is open with a patch on top
+pub all_laid : (patch : Given) (before laid : FinMap nat_cmp ℕ) (end : ℕ) → IsLaid patch before laid → ((f : ℕ) → or_before (get patch f) (get before f) ≢ None → f < end) → open_from laid 0 end ≡ entries laid
+all_laid patch before laid end is all = all_open laid end (none_behind laid end (λ f some. all f (λ none. some (is f ∙ none))))
 
 -- one more descriptor
 pub open_more : (m : FinMap nat_cmp ℕ) (first more : ℕ) (d : ℕ) (done : List (ℕ × ℕ)) → get m first ≡ Some d → done ++ open_from m first (suc more) ≡ (done ++ ((first, d) ∷ [])) ++ open_from m (first + 1) more

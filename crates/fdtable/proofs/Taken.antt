@@ -1,20 +1,10 @@
 -- What a table gives, by its places.
-use Rattle.std.proofs.Common.{◌≡◌, ℕ, ◌<◌, ◌≤◌, cond, List, length, get_or, Option, None, nat_cmp, sym, ap, ◌∙◌, inl, inr}
+use Rattle.std.proofs.Common.{◌≡◌, ℕ, cond, None, nat_cmp, sym, ap, ◌∙◌, inl, inr}
 use Rattle.std.specs.Ordering.{eq_by_cmp, is_eq}
 use Rattle.std.proofs.lemmas.Bool.{cases_eq}
-use Rattle.std.proofs.lemmas.List.{get_or_past, get_or_read}
 use Rattle.std.specs.Cmp.{nat_cmp_total, tied_itself}
-use Rattle.model.specs.FiniteMap.{FinMap, get, remove, from_entries, get-remove, same_map, nat_cmp-IsAntisymmetric}
-use Rattle.model.specs.Places.{placed}
-use Rattle.model.proofs.Laws.{apart, get-placed}
-
--- what was read at a place is what the table gives
-pub given : {X : Type 0} (xs : List (Option X)) (q : ℕ) (x : Option X) → q < length xs → x ≡ get_or xs q x → x ≡ get (from_entries {R = nat_cmp} (placed 0 xs)) q
-given xs q x low is = get_or_read xs q x low is None ∙ sym (get-placed xs q)
-
--- past the places it gives nothing
-pub given_past : {X : Type 0} (xs : List (Option X)) (q : ℕ) → length xs ≤ q → get (from_entries {R = nat_cmp} (placed 0 xs)) q ≡ None
-given_past xs q past = get-placed xs q ∙ get_or_past xs q None past
+use Rattle.model.specs.FiniteMap.{FinMap, get, remove, get-remove, same_map, nat_cmp-IsAntisymmetric}
+use Rattle.model.proofs.Laws.{apart}
 
 -- what is not there is not taken away
 pub remove_absent : (m : FinMap nat_cmp ℕ) (k : ℕ) → get m k ≡ None → m ≡ remove m k

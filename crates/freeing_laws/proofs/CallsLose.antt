@@ -1,15 +1,15 @@
 -- Of the edits of one call only the last loses anything.
-use Rattle.std.proofs.Common.{◌≡◌, ℕ, ℤ, pos, negsuc, ◌+ℤ◌, Bool, true, false, not, ◌&&◌, ◌||◌, if◌then◌else◌, List, [], ◌∷◌, ◌++◌, Option, Some, None, Result, Ok, Err, IfOk, nat_lt, nat_le, ◌==◌, length, min, refl}
+use Rattle.std.proofs.Common.{◌≡◌, ℕ, ◌+◌, ◌-◌, ℤ, pos, negsuc, Bool, true, false, not, ◌&&◌, ◌||◌, if◌then◌else◌, List, [], ◌∷◌, ◌++◌, Option, Some, None, Result, Ok, Err, IfOk, nat_lt, nat_le, ◌==◌, length, min, refl}
 use Rattle.std.specs.Prelude.{⊤}
 use Rattle.std.specs.List.{list_any}
 use Rattle.model.specs.State.{A_file, A_directory, A_pipe, A_link, A_fifo, A_socket, Kernel, ends}
-use Rattle.model.specs.Plan.{Errno, EAGAIN, EBADF, EBUSY, EEXIST, EFBIG, EINVAL, EISDIR, ELOOP, ENXIO, ENAMETOOLONG, ENOENT, ENOTDIR, ENOTEMPTY, EPERM, EPIPE, ESPIPE, Plan, Give, given, answer, or_refuse, List_names, Read_file, Count_ends, Find_offset, Read_pipe, Fit, ◌>>=◌, refuse_if}
+use Rattle.model.specs.Plan.{Errno, EAGAIN, EBADF, EBUSY, EEXIST, EFBIG, EINVAL, EISDIR, ELOOP, ENXIO, ENAMETOOLONG, ENOENT, ENOTDIR, ENOTEMPTY, EPERM, EPIPE, ESPIPE, Plan, Give, given, answer, or_refuse, List_names, Measure, Read_file, Count_ends, Find_offset, Read_pipe, Fit, ◌>>=◌, refuse_if}
 use Rattle.model.specs.Paths.{is_empty, is_below}
 use Rattle.model.specs.Walks.{Last, Place, parsed, walk, last_of, is_directory, is_link}
-use Rattle.model.specs.Changes.{Edit, Unname_file, Unname_directory, Move, Share_slot, Clear_slot, End_process, Make_directory, Make_file, Make_fixed, Name_file, Put_bytes, Cut, Take, Append, Set_offset, Set_rights, Open_inode, Make_pipe, New_process}
-use Rattle.model.specs.Calls.{Call, Open, Close, Read, Pread, Write, Pwrite, Lseek, Ftruncate, Truncate, Stat, Fstat, Link, Unlink, Rename, Mkdir, Rmdir, List_directory, Symlink, Readlink, Lstat, Mknod, Chmod, Chown, Fchmod, Fchown, Dup, Dup2, Open_pipe, Fork, Exit, OpenFlags, Slot, Own, own}
+use Rattle.model.specs.Changes.{Edit, Unname_file, Unname_directory, Swap, Wipe, Move, Share_slot, Clear_slot, End_process, Make_directory, Make_file, Make_fixed, Name_file, Put_bytes, Cut, Take, Append, Set_offset, Set_rights, Open_inode, Make_pipe, New_process}
+use Rattle.model.specs.Calls.{Call, Open, Close, Read, Pread, Write, Pwrite, Lseek, Ftruncate, Truncate, Stat, Fstat, Link, Unlink, Rename, Exchange, Fallocate, Space, Grow, Keep, Punch, Mkdir, Rmdir, List_directory, Symlink, Readlink, Lstat, Mknod, Chmod, Chown, Fchmod, Fchown, Dup, Dup2, Open_pipe, Fork, Exit, OpenFlags, Slot, Own, own}
 use Rattle.ids.specs.Flags.{is_reading, is_writing, is_creating, is_exclusive, is_truncating}
-use Rattle.model.specs.Plans.{Change, target_limit, is_special, is_pipe, most_moved, status, slot, opened, cut_to, read_pipe, read_some, place_to_write, write_some, offset_named, sought, base, replaced_by_name, moved, absent, duplicated, piped, forked, first_of_free, free, plan}
+use Rattle.model.specs.Plans.{Change, target_limit, is_special, is_pipe, most_moved, status, slot, opened, cut_to, read_pipe, read_some, place_to_write, write_some, offset_named, sought, length_named, aimed, spaced, replaced_by_name, moved, absent, duplicated, piped, forked, first_of_free, free, plan, open_limit}
 use Rattle.model.specs.Steps.{edits, edits_of, outcome}
 use Rattle.call_laws.proofs.Laws.{after_bind, whatever, weaken, either_given}
 use Rattle.freeing_laws.specs.Sweep.{nothing, lost_by, loses}
@@ -19,7 +19,9 @@ loses_nothing k (Make_directory d x i) lasts = refl
 loses_nothing k (Make_file d x i) lasts = refl
 loses_nothing k (Make_fixed d x fixed i) lasts = refl
 loses_nothing k (Name_file d x n) lasts = refl
+loses_nothing k (Swap d x n e y m) lasts = refl
 loses_nothing k (Put_bytes n place bytes before) lasts = refl
+loses_nothing k (Wipe n place count) lasts = refl
 loses_nothing k (Cut n before after) lasts = refl
 loses_nothing k (Take p count) lasts = refl
 loses_nothing k (Append p bytes) lasts = refl
@@ -74,6 +76,15 @@ module _ (k : Kernel) where
   at_most_one true e = tt
   at_most_one false e = tt
 
+  one_if : (b : Bool) (e : Edit) → OnlyLastLoses (if b then e ∷ [] else [])
+  one_if true e = tt
+  one_if false e = tt
+
+  spaced_fine : (n at count : ℕ) (space : Space) → IfOk (given k (spaced n at count space)) Fine
+  spaced_fine n at count Grow = one_if (nat_lt (answer k (Measure n)) (at + count)) (Cut n (answer k (Measure n)) (at + count))
+  spaced_fine n at count Keep = tt
+  spaced_fine n at count Punch = one_if (nat_lt at (answer k (Measure n))) (Wipe n at (min count (answer k (Measure n) - at)))
+
   read_fine : (it : Slot) (count : ℕ) → IfOk (given k (read_some it count)) Fine
   read_fine it count = either_given k Fine (is_pipe it.kind) _ _ (λ _. read_pipe_fine it.inode (answer k (Read_pipe it.inode count)))
       (λ _. at_most_one (is_empty (answer k (Read_file it.inode (answer k (Find_offset it.description)) (min count most_moved)))) _)
@@ -109,38 +120,43 @@ module _ (k : Kernel) where
 
   plan_fine : (me : Own) (call : Call) → IfOk (given k (plan me call)) Fine
   plan_fine me (Open path flags) = pass (refuse_if (not (is_reading flags || is_writing flags)) EINVAL) _ (λ _. pass (refuse_if (is_exclusive flags && not (is_creating flags)) EINVAL) _ (λ _.
-      pass (refuse_if (is_truncating flags && not (is_writing flags)) EINVAL) _ (λ _. pass (parsed path) _ (λ names. pass (first_of_free (free me)) _ (λ f.
+      pass (refuse_if (is_truncating flags && not (is_writing flags)) EINVAL) _ (λ _. pass (parsed me.bounds.path_bytes path) _ (λ names. pass (first_of_free (free me)) _ (λ f.
       pass (last_of me.root (if is_creating flags && is_exclusive flags then EEXIST else EISDIR) names) _ (λ at. opened_fine me flags f at at.found))))))
   plan_fine me (Close f) = pass (slot me f) _ (λ _. tt)
   plan_fine me (Read f count) = pass (slot me f) _ (λ it. pass (refuse_if (not it.reading) EBADF) _ (λ _. either_given k Fine (count == 0) _ _ (λ _. tt) (λ _. read_fine it count)))
   plan_fine me (Pread f count offset) = pass (slot me f) _ (λ it. pass (refuse_if (not it.reading) EBADF) _ (λ _. pass (refuse_if (is_pipe it.kind) ESPIPE) _ (λ _. pass (or_refuse EINVAL (offset_named offset)) _ (λ at. either_given k Fine (count == 0) _ _ (λ _. tt) (λ _. tt)))))
-  plan_fine me (Write f bytes) = pass (slot me f) _ (λ it. pass (refuse_if (not it.writing) EBADF) _ (λ _. either_given k Fine (is_empty bytes) _ _ (λ _. tt) (λ _. write_fine me.largest it bytes)))
+  plan_fine me (Write f bytes) = pass (slot me f) _ (λ it. pass (refuse_if (not it.writing) EBADF) _ (λ _. either_given k Fine (is_empty bytes) _ _ (λ _. tt) (λ _. write_fine me.bounds.file_bytes it bytes)))
   plan_fine me (Pwrite f bytes offset) = pass (slot me f) _ (λ it. pass (refuse_if (not it.writing) EBADF) _ (λ _. pass (refuse_if (is_pipe it.kind) ESPIPE) _ (λ _. pass (or_refuse EINVAL (offset_named offset)) _ (λ at. either_given k Fine (is_empty bytes) _ _ (λ _. tt) (λ _.
-      pass (refuse_if (nat_le me.largest at) EFBIG) _ (λ _. tt))))))
-  plan_fine me (Lseek f move whence) = pass (slot me f) _ (λ it. pass (refuse_if (is_pipe it.kind) ESPIPE) _ (λ _. pass (base it whence) _ (λ place. sought_fine me.largest it (pos place +ℤ move))))
-  plan_fine me (Ftruncate f len) = pass (slot me f) _ (λ it. pass (refuse_if (not it.writing) EBADF) _ (λ _. pass (refuse_if (is_pipe it.kind) EINVAL) _ (λ _. pass (refuse_if (nat_lt me.largest len) EFBIG) _ (λ _. tt))))
-  plan_fine me (Truncate path len) = pass (parsed path) _ (λ names. pass (walk (me.root, Some A_directory) names) _ (λ place. pass (refuse_if (is_directory place) EISDIR) _ (λ _. pass (refuse_if (is_link place) ELOOP) _ (λ _. pass (refuse_if (is_special place) EINVAL) _ (λ _. pass (refuse_if (nat_lt me.largest len) EFBIG) _ (λ _. tt))))))
-  plan_fine me (Stat path) = pass (parsed path) _ (λ names. pass (walk (me.root, Some A_directory) names) _ (λ place. pass (refuse_if (is_link place) ELOOP) _ (λ _. status_fine place)))
+      pass (refuse_if (nat_le me.bounds.file_bytes at) EFBIG) _ (λ _. tt))))))
+  plan_fine me (Lseek f move whence) = pass (slot me f) _ (λ it. pass (refuse_if (is_pipe it.kind) ESPIPE) _ (λ _. pass (aimed it move whence) _ (λ sum. sought_fine me.bounds.file_bytes it sum)))
+  plan_fine me (Fallocate f offset len space) = pass (slot me f) _ (λ it. pass (or_refuse EINVAL (offset_named offset)) _ (λ at. pass (or_refuse EINVAL (length_named len)) _ (λ count.
+      pass (refuse_if (not it.writing) EBADF) _ (λ _. pass (refuse_if (is_pipe it.kind) ESPIPE) _ (λ _. pass (refuse_if (nat_lt me.bounds.file_bytes (at + count)) EFBIG) _ (λ _. spaced_fine it.inode at count space))))))
+  plan_fine me (Ftruncate f len) = pass (slot me f) _ (λ it. pass (refuse_if (not it.writing) EBADF) _ (λ _. pass (refuse_if (is_pipe it.kind) EINVAL) _ (λ _. pass (refuse_if (nat_lt me.bounds.file_bytes len) EFBIG) _ (λ _. tt))))
+  plan_fine me (Truncate path len) = pass (parsed me.bounds.path_bytes path) _ (λ names. pass (walk (me.root, Some A_directory) names) _ (λ place. pass (refuse_if (is_directory place) EISDIR) _ (λ _. pass (refuse_if (is_link place) ELOOP) _ (λ _. pass (refuse_if (is_special place) EINVAL) _ (λ _. pass (refuse_if (nat_lt me.bounds.file_bytes len) EFBIG) _ (λ _. tt))))))
+  plan_fine me (Stat path) = pass (parsed me.bounds.path_bytes path) _ (λ names. pass (walk (me.root, Some A_directory) names) _ (λ place. pass (refuse_if (is_link place) ELOOP) _ (λ _. status_fine place)))
   plan_fine me (Fstat f) = pass (slot me f) _ (λ it. status_fine (it.inode, it.kind))
-  plan_fine me (Link old path) = pass (parsed old) _ (λ from. pass (parsed path) _ (λ to. pass (walk (me.root, Some A_directory) from) _ (λ what. pass (refuse_if (is_directory what) EPERM) _ (λ _. pass (last_of me.root EEXIST to) _ (λ at. pass (absent at.found) _ (λ _. tt))))))
-  plan_fine me (Unlink path) = pass (parsed path) _ (λ names. pass (last_of me.root EPERM names) _ (λ at. pass (or_refuse ENOENT at.found) _ (λ what. pass (refuse_if (is_directory what) EPERM) _ (λ _. tt))))
-  plan_fine me (Rename old path) = pass (parsed old) _ (λ from. pass (parsed path) _ (λ to. pass (refuse_if (is_empty from || is_empty to) EBUSY) _ (λ _. pass (last_of me.root EBUSY from) _ (λ at. pass (or_refuse ENOENT at.found) _ (λ what.
+  plan_fine me (Link old path) = pass (parsed me.bounds.path_bytes old) _ (λ from. pass (parsed me.bounds.path_bytes path) _ (λ to. pass (walk (me.root, Some A_directory) from) _ (λ what. pass (refuse_if (is_directory what) EPERM) _ (λ _. pass (last_of me.root EEXIST to) _ (λ at. pass (absent at.found) _ (λ _. tt))))))
+  plan_fine me (Unlink path) = pass (parsed me.bounds.path_bytes path) _ (λ names. pass (last_of me.root EPERM names) _ (λ at. pass (or_refuse ENOENT at.found) _ (λ what. pass (refuse_if (is_directory what) EPERM) _ (λ _. tt))))
+  plan_fine me (Rename old path) = pass (parsed me.bounds.path_bytes old) _ (λ from. pass (parsed me.bounds.path_bytes path) _ (λ to. pass (refuse_if (is_empty from || is_empty to) EBUSY) _ (λ _. pass (last_of me.root EBUSY from) _ (λ at. pass (or_refuse ENOENT at.found) _ (λ what.
       pass (refuse_if (is_directory what && is_below from to) EINVAL) _ (λ _. pass (last_of me.root EBUSY to) _ (λ onto. moved_fine at what onto onto.found)))))))
-  plan_fine me (Mkdir path) = pass (parsed path) _ (λ names. pass (last_of me.root EEXIST names) _ (λ at. pass (absent at.found) _ (λ _. tt)))
-  plan_fine me (Rmdir path) = pass (parsed path) _ (λ names. pass (last_of me.root EBUSY names) _ (λ at. pass (or_refuse ENOENT at.found) _ (λ what. pass (refuse_if (not (is_directory what)) ENOTDIR) _ (λ _.
+  plan_fine me (Exchange old path) = pass (parsed me.bounds.path_bytes old) _ (λ from. pass (parsed me.bounds.path_bytes path) _ (λ to. pass (refuse_if (is_empty from || is_empty to) EBUSY) _ (λ _. pass (last_of me.root EBUSY from) _ (λ at. pass (last_of me.root EBUSY to) _ (λ onto.
+      pass (or_refuse ENOENT at.found) _ (λ what. pass (or_refuse ENOENT onto.found) _ (λ other. pass (refuse_if (is_directory what && is_below from to) EINVAL) _ (λ _. pass (refuse_if (is_directory other && is_below to from) EINVAL) _ (λ _.
+      either_given k Fine (what.0 == other.0) _ _ (λ _. tt) (λ _. tt))))))))))
+  plan_fine me (Mkdir path) = pass (parsed me.bounds.path_bytes path) _ (λ names. pass (last_of me.root EEXIST names) _ (λ at. pass (absent at.found) _ (λ _. tt)))
+  plan_fine me (Rmdir path) = pass (parsed me.bounds.path_bytes path) _ (λ names. pass (last_of me.root EBUSY names) _ (λ at. pass (or_refuse ENOENT at.found) _ (λ what. pass (refuse_if (not (is_directory what)) ENOTDIR) _ (λ _.
       pass (refuse_if (not (is_empty (answer k (List_names what.0)))) ENOTEMPTY) _ (λ _. tt)))))
-  plan_fine me (List_directory path) = pass (parsed path) _ (λ names. pass (walk (me.root, Some A_directory) names) _ (λ place. pass (refuse_if (is_link place) ELOOP) _ (λ _. pass (refuse_if (not (is_directory place)) ENOTDIR) _ (λ _. tt))))
+  plan_fine me (List_directory path) = pass (parsed me.bounds.path_bytes path) _ (λ names. pass (walk (me.root, Some A_directory) names) _ (λ place. pass (refuse_if (is_link place) ELOOP) _ (λ _. pass (refuse_if (not (is_directory place)) ENOTDIR) _ (λ _. tt))))
   plan_fine me (Symlink target path) = pass (refuse_if (is_empty target) ENOENT) _ (λ _. pass (refuse_if (nat_lt target_limit (length target)) ENAMETOOLONG) _ (λ _. pass (refuse_if (list_any (λ b. b == 0) target) EINVAL) _ (λ _.
-      pass (parsed path) _ (λ names. pass (last_of me.root EEXIST names) _ (λ at. pass (absent at.found) _ (λ _. tt))))))
-  plan_fine me (Readlink path) = pass (parsed path) _ (λ names. pass (walk (me.root, Some A_directory) names) _ (λ place. pass (refuse_if (not (is_link place)) EINVAL) _ (λ _. tt)))
-  plan_fine me (Lstat path) = pass (parsed path) _ (λ names. pass (walk (me.root, Some A_directory) names) _ (λ place. status_fine place))
-  plan_fine me (Mknod path special) = pass (parsed path) _ (λ names. pass (last_of me.root EEXIST names) _ (λ at. pass (absent at.found) _ (λ _. tt)))
-  plan_fine me (Chmod path permissions) = pass (parsed path) _ (λ names. pass (walk (me.root, Some A_directory) names) _ (λ place. pass (refuse_if (is_link place) ELOOP) _ (λ _. tt)))
-  plan_fine me (Chown path owner) = pass (parsed path) _ (λ names. pass (walk (me.root, Some A_directory) names) _ (λ place. tt))
+      pass (parsed me.bounds.path_bytes path) _ (λ names. pass (last_of me.root EEXIST names) _ (λ at. pass (absent at.found) _ (λ _. tt))))))
+  plan_fine me (Readlink path) = pass (parsed me.bounds.path_bytes path) _ (λ names. pass (walk (me.root, Some A_directory) names) _ (λ place. pass (refuse_if (not (is_link place)) EINVAL) _ (λ _. tt)))
+  plan_fine me (Lstat path) = pass (parsed me.bounds.path_bytes path) _ (λ names. pass (walk (me.root, Some A_directory) names) _ (λ place. status_fine place))
+  plan_fine me (Mknod path special) = pass (parsed me.bounds.path_bytes path) _ (λ names. pass (last_of me.root EEXIST names) _ (λ at. pass (absent at.found) _ (λ _. tt)))
+  plan_fine me (Chmod path permissions) = pass (parsed me.bounds.path_bytes path) _ (λ names. pass (walk (me.root, Some A_directory) names) _ (λ place. pass (refuse_if (is_link place) ELOOP) _ (λ _. tt)))
+  plan_fine me (Chown path owner) = pass (parsed me.bounds.path_bytes path) _ (λ names. pass (walk (me.root, Some A_directory) names) _ (λ place. tt))
   plan_fine me (Fchmod f permissions) = pass (slot me f) _ (λ it. tt)
   plan_fine me (Fchown f owner) = pass (slot me f) _ (λ it. tt)
   plan_fine me (Dup f) = pass (slot me f) _ (λ it. dup_fine me it (free me))
-  plan_fine me (Dup2 f g) = pass (slot me f) _ (λ it. pass (refuse_if (nat_lt 63 g) EBADF) _ (λ _. either_given k Fine (f == g) _ _ (λ _. tt) (λ _. tt)))
+  plan_fine me (Dup2 f g) = pass (slot me f) _ (λ it. pass (refuse_if (nat_le (open_limit me) g) EBADF) _ (λ _. either_given k Fine (f == g) _ _ (λ _. tt) (λ _. tt)))
   plan_fine me Open_pipe = pipe_fine me (free me)
   plan_fine me Fork = fork_fine me me.birth
   plan_fine me Exit = tt

@@ -1,10 +1,11 @@
 -- By how much each edit changes the counts.
-use Rattle.std.proofs.Common.{◌≡◌, ◌≢◌, ℕ, ◌+◌, ◌==◌, Bool, cond, ◌&&◌, List, Option, [], ◌∷◌, ◌++◌, drop, Some, None, refl, sym, ap, ◌∙◌, arith, nat_cmp}
+use Rattle.std.proofs.Common.{◌≡◌, ◌≢◌, ℕ, ◌+◌, ◌==◌, Bool, cond, ◌&&◌, List, Option, [], ◌∷◌, ◌++◌, drop, replicate, Some, None, refl, sym, ap, ◌∙◌, arith, nat_cmp}
 use Rattle.model.specs.FiniteMap.{FinMap, get, empty, insert, remove, values}
 use Rattle.model.specs.State.{Name, name_cmp, A_directory, A_pipe, Kernel, Inode, File, Directory, Pipe, Fixed, Description, Process, Rights, kind, names_of, file_of, pipe_of, kind_of, links, ends, is_end}
-use Rattle.model.specs.Changes.{Edit, Made, number, Make_directory, Make_file, Make_fixed, Name_file, Unname_file, Unname_directory, Move, Put_bytes, Cut, Take, Append, Set_offset, Set_rights, Open_inode, Make_pipe, Share_slot, Clear_slot, New_process, End_process, Mode, to_read, to_write, applied, process_of, set_inode, set_name, clear_name, at_offset, at_start, open_at, set_offset, set_rights, set_process, without_slot, sized, written, holders, openings}
+use Rattle.model.specs.Changes.{Edit, Made, number, Make_directory, Make_file, Make_fixed, Name_file, Unname_file, Unname_directory, Swap, Wipe, Move, Put_bytes, Cut, Take, Append, Set_offset, Set_rights, Open_inode, Make_pipe, Share_slot, Clear_slot, New_process, End_process, Mode, to_read, to_write, applied, process_of, set_inode, set_name, clear_name, at_offset, at_start, open_at, set_offset, set_rights, set_process, without_slot, sized, written, holders, openings}
 use Rattle.model.proofs.Laws.{get_same, get_other}
-use Rattle.call_laws.specs.Fits.{Fits, CanBeReplaced, CanMove, CanPipe, IsUnused, table_of}
+use Rattle.call_laws.specs.Fits.{Fits, CanBeReplaced, CanMove, CanSwap, CanPipe, IsUnused, table_of}
+use Rattle.call_laws.proofs.Laws.{swapped_links}
 use Rattle.model.specs.Changes.{Replaced, Over_nothing, Over_file, Over_directory, inode_replaced}
 use Rattle.call_laws.proofs.Laws.{has_names, one, counted, links_named, links_unnamed, same_links, IsNew, is_new, kept_kind, HasBytes, has_bytes, no_names_file, no_names_pipe, still_gives, other_old, set_there, ends_unmoved, with_tables, pipe_at, unused_after, free_after, end_count, ends-open_at, without_process}
 use Rattle.freeing_laws.specs.Counts.{times, listed, named, unnamed, opened, taken, let_go, ends_among, EditCounts}
@@ -112,6 +113,9 @@ moved_links k d x e y n replaced can m =
     let come : links (set_name e y n mid) m + counted m can.old ≡ links mid m + one n m = ap (λ c. links (set_name e y n mid) m + c) (sym (ap (counted m) still)) ∙ links_named mid e y n is_too m in
     let o : times m (inode_replaced replaced) ≡ counted m can.old = ap (times m) (old_is_replaced k n can.old replaced can.replaces) ∙ times_listed m can.old in
     omega arith
+
+exchanged_links : (k : Kernel) (d : ℕ) (x : Name) (n e : ℕ) (y : Name) (m : ℕ) → CanSwap k d x n e y m → (t : ℕ) → links (set_name e y n (set_name d x m k)) t + times t [] ≡ links k t + times t []
+exchanged_links k d x n e y m can t = let same : links (set_name e y n (set_name d x m k)) t ≡ links k t = swapped_links k d x n e y m can.first.parent.directory can.second.parent.directory can.first.gives can.second.gives can.apart t in omega arith
 
 bytes_links : (k : Kernel) (n : ℕ) (new : Inode) → HasBytes k (set_inode n new k) → (m : ℕ) → links (set_inode n new k) m + times m [] ≡ links k m + times m []
 bytes_links k n new has m = let same : links (set_inode n new k) m ≡ links k m = has.links m in omega arith
@@ -265,7 +269,9 @@ counts_change chosen k (Name_file d x n) f = by_inodes chosen k (Name_file d x n
 counts_change chosen k (Unname_file d x n) f = by_inodes chosen k (Unname_file d x n) _ refl refl refl refl (unnamed_links k d x n f.parent.directory f.gives)
 counts_change chosen k (Unname_directory d x n) f = by_inodes chosen k (Unname_directory d x n) _ refl refl refl refl (unnamed_links k d x n f.0.parent.directory f.0.gives)
 counts_change chosen k (Move d x e y n replaced) f = by_inodes chosen k (Move d x e y n replaced) _ refl refl refl refl (moved_links k d x e y n replaced f)
+counts_change chosen k (Swap d x n e y m) f = by_inodes chosen k (Swap d x n e y m) _ refl refl refl refl (exchanged_links k d x n e y m f)
 counts_change chosen k (Put_bytes n place bytes before) f = by_inodes chosen k (Put_bytes n place bytes before) _ refl refl refl refl (bytes_links k n (File (written (file_of k n) place bytes)) (has_bytes k n _ (sym f.0) refl (no_names_file _ f.0)))
+counts_change chosen k (Wipe n place count) f = by_inodes chosen k (Wipe n place count) _ refl refl refl refl (bytes_links k n (File (written (file_of k n) place (replicate count 0))) (has_bytes k n _ (sym f.0) refl (no_names_file _ f.0)))
 counts_change chosen k (Cut n before after) f = by_inodes chosen k (Cut n before after) _ refl refl refl refl (bytes_links k n (File (sized after (file_of k n))) (has_bytes k n _ (sym f.0) refl (no_names_file _ f.0)))
 counts_change chosen k (Take p count) f = by_inodes chosen k (Take p count) _ refl refl refl refl (bytes_links k p (Pipe (drop count (pipe_of k p))) (has_bytes k p _ (sym f.0) refl (no_names_pipe _ f.0)))
 counts_change chosen k (Append p bytes) f = by_inodes chosen k (Append p bytes) _ refl refl refl refl (bytes_links k p (Pipe (pipe_of k p ++ bytes)) (has_bytes k p _ (sym f.0) refl (no_names_pipe _ f.0)))

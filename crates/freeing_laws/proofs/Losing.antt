@@ -4,7 +4,7 @@ use Rattle.std.specs.Cmp.{nat_cmp_total}
 use Rattle.std.proofs.lemmas.Bool.{cases_eq}
 use Rattle.model.specs.FiniteMap.{FinMap, get, empty, insert}
 use Rattle.model.specs.State.{Kind, A_directory, Kernel, Inode, File, Directory, Pipe, Fixed, Description, Process, kind, mapped, kind_of, links}
-use Rattle.model.specs.Changes.{Edit, Made, number, Make_directory, Make_file, Make_fixed, Name_file, Unname_file, Unname_directory, Move, Put_bytes, Cut, Take, Append, Set_offset, Set_rights, Open_inode, Make_pipe, Share_slot, Clear_slot, New_process, End_process, Mode, to_read, to_write, applied, set_inode, at_offset, at_start, open_at, holders, openings, is_held, without_descriptions}
+use Rattle.model.specs.Changes.{Edit, Made, number, Make_directory, Make_file, Make_fixed, Name_file, Unname_file, Unname_directory, Swap, Wipe, Move, Put_bytes, Cut, Take, Append, Set_offset, Set_rights, Open_inode, Make_pipe, Share_slot, Clear_slot, New_process, End_process, Mode, to_read, to_write, applied, set_inode, at_offset, at_start, open_at, holders, openings, is_held, without_descriptions}
 use Rattle.model.proofs.Laws.{get_same, get_other}
 use Rattle.call_laws.specs.Fits.{Fits}
 use Rattle.call_laws.proofs.Laws.{one_some, not_none, some_same, stays_inserted, retained_some, some_part, Part, with_offset, set_there, with_tables, pipe_at, reached, either_of, rooted_reached, open_reached}
@@ -184,7 +184,9 @@ edit_comes chosen k (Name_file d x n) f counts = inode_comes k d _ (there_by_kin
 edit_comes chosen k (Unname_file d x n) f counts = inode_comes k d _ (there_by_kind k d A_directory f.parent.directory)
 edit_comes chosen k (Unname_directory d x n) f counts = inode_comes k d _ (there_by_kind k d A_directory f.0.parent.directory)
 edit_comes chosen k (Move d x e y n replaced) f counts = moved_comes k d e _ _ (there_by_kind k d A_directory f.from.parent.directory) (there_by_kind k e A_directory f.onto.directory)
+edit_comes chosen k (Swap d x n e y m) f counts = moved_comes k d e _ _ (there_by_kind k d A_directory f.first.parent.directory) (there_by_kind k e A_directory f.second.parent.directory)
 edit_comes chosen k (Put_bytes n place bytes before) f counts = inode_comes k n _ (there_by_kind k n _ f.0)
+edit_comes chosen k (Wipe n place count) f counts = inode_comes k n _ (there_by_kind k n _ f.0)
 edit_comes chosen k (Cut n before after) f counts = inode_comes k n _ (there_by_kind k n _ f.0)
 edit_comes chosen k (Take p count) f counts = inode_comes k p _ (there_by_kind k p _ f.0)
 edit_comes chosen k (Append p bytes) f counts = inode_comes k p _ (there_by_kind k p _ f.0)

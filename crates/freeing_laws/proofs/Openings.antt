@@ -10,7 +10,7 @@ use Rattle.model.specs.Limits.{descriptor_limit}
 use Rattle.model.specs.State.{Kernel, Description, Process}
 use Rattle.model.specs.Changes.{set_description, set_offset, at_offset, openings, holders}
 use Rattle.model.proofs.Laws.{weight, all_entries}
-use Rattle.call_laws.specs.WellFormed.{WellFormed}
+use Rattle.call_laws.specs.WellFormed.{WellFormed, most_descriptors}
 use Rattle.call_laws.specs.Fits.{table_of}
 use Rattle.call_laws.proofs.Laws.{sum-zero, not_counted, one, table_in, named_in, not_none, removed_same, removed_other}
 use Rattle.freeing_laws.specs.Counts.{opens}
@@ -122,7 +122,7 @@ module _ {X : Type 0} where
       ]
 
 tables : (k : Kernel) → WellFormed k → (pid : ℕ) → len (table_of k pid) ≤ descriptor_limit
-tables k well pid = few_keys descriptor_limit (table_of k pid) (λ f d is. well.low pid f d is)
+tables k well pid = few_keys descriptor_limit (table_of k pid) (λ f d is. let low : f < most_descriptors k = well.low pid f d is in omega arith)
 
 most_held : (k : Kernel) → WellFormed k → (d : ℕ) → holders k d ≤ descriptor_limit * len k.processes
 most_held k well d = most_holders k d (λ pid it is. subst (λ o. len (table_in o) ≤ descriptor_limit) is (tables k well pid))

@@ -5,7 +5,7 @@ use Rattle.std.proofs.lemmas.List.Sums.{sum_by-cons}
 use Rattle.model.specs.FiniteMap.{FinMap, get, values, insert, empty}
 use Rattle.model.specs.Limits.{capacity}
 use Rattle.model.specs.State.{A_file, A_pipe, Description, Directory, File, Fixed, Inode, Kernel, Kind, Pipe, Process, ends, is_end, kind, kind_of, mapped, pipe_of, pipe_of_inode}
-use Rattle.model.specs.Changes.{Edit, Made, Make_directory, Make_file, Make_fixed, Name_file, Unname_file, Unname_directory, Move, Put_bytes, Cut, Take, Append, Set_offset, Set_rights, Open_inode, Make_pipe, Share_slot, Clear_slot, New_process, End_process, all_applied, applied, at_offset, at_start, clear_name, holders, number, openings, set_inode, to_read, to_write}
+use Rattle.model.specs.Changes.{Edit, Made, Make_directory, Make_file, Make_fixed, Name_file, Unname_file, Unname_directory, Swap, Wipe, Move, Put_bytes, Cut, Take, Append, Set_offset, Set_rights, Open_inode, Make_pipe, Share_slot, Clear_slot, New_process, End_process, all_applied, applied, at_offset, at_start, clear_name, holders, number, openings, set_inode, set_name, to_read, to_write}
 use Rattle.model.specs.Effects.{Effect, all_done}
 use Rattle.model.proofs.Laws.{get_same, get_other}
 use Rattle.call_laws.specs.Fits.{Fits, FitsAll}
@@ -76,7 +76,9 @@ keeps chosen k (Name_file d x n) f p r w is pair = pair
 keeps chosen k (Unname_file d x n) f p r w is pair = pair
 keeps chosen k (Unname_directory d x n) f p r w is pair = pair
 keeps chosen k (Move d x e y n replaced) f p r w is pair = pair
+keeps chosen k (Swap d x n e y m) f p r w is pair = pair
 keeps chosen k (Put_bytes n place bytes before) f p r w is pair = pair
+keeps chosen k (Wipe n place count) f p r w is pair = pair
 keeps chosen k (Cut n before after) f p r w is pair = pair
 keeps chosen k (Take q count) f p r w is pair = pair
 keeps chosen k (Append q bytes) f p r w is pair = pair
@@ -221,7 +223,9 @@ one_short chosen k (Name_file d x n) f short = set_short k d _ (no_bytes k) shor
 one_short chosen k (Unname_file d x n) f short = set_short k d _ (no_bytes k) short
 one_short chosen k (Unname_directory d x n) f short = set_short k d _ (no_bytes k) short
 one_short chosen k (Move d x e y n replaced) f short = set_short (clear_name d x k) e _ (no_bytes k) (set_short k d _ (no_bytes k) short)
+one_short chosen k (Swap d x n e y m) f short = set_short (set_name d x m k) e _ (no_bytes k) (set_short k d _ (no_bytes k) short)
 one_short chosen k (Put_bytes n place bytes before) f short = set_short k n _ (no_bytes k) short
+one_short chosen k (Wipe n place count) f short = set_short k n _ (no_bytes k) short
 one_short chosen k (Cut n before after) f short = set_short k n _ (no_bytes k) short
 one_short chosen k (Take p count) f short =
     set_short k p (Pipe (drop count (pipe_of k p))) (let less : length (drop count (pipe_of k p)) ≡ length (pipe_of k p) - count = length-drop count (pipe_of k p) in let low : length (pipe_of k p) ≤ capacity = short p in omega arith) short

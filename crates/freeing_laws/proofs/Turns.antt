@@ -89,7 +89,7 @@ left_is_counted k n is = either_of (n == k.root) (nat_lt 0 (links (without_descr
 description_gone : (k : Kernel) (d : ℕ) → is_held k d ≡ false → tidy (without_description d k) ≡ tidy k
 description_gone k d loose = alike_tidied k (without_description d k) (record {
   root = refl;
-  largest = refl;
+  bounds = refl;
   processes = refl;
   made = refl;
   held = λ e held. removed_other k.descriptions d e (λ same. true_is_false (sym held ∙ ap (is_held k) same ∙ loose));
@@ -100,7 +100,7 @@ description_gone k d loose = alike_tidied k (without_description d k) (record {
 inode_gone : (k : Kernel) (n : ℕ) → AreParented k → is_reached k n ≡ false → tidy (without_inode n k) ≡ tidy k
 inode_gone k n parents loose = alike_tidied k (without_inode n k) (record {
   root = refl;
-  largest = refl;
+  bounds = refl;
   processes = refl;
   made = refl;
   held = λ e _. refl;

@@ -4,7 +4,7 @@ use Rattle.std.specs.Prelude.{not, option_map}
 use Rattle.std.proofs.lemmas.Bool.{eqb-true}
 use Rattle.fuse.specs.declared.request.Operation.{Operation}
 use Rattle.fuse.specs.declared.request.Operation.TheVariants as op
-use Rattle.fuse.specs.Bodies.{access_in, batch_forget_in, behind, changes_in, create_in, destroy_in, flush_in, forget_in, forgets_in, fsync_in, getattr_in, init_in, interrupt_in, link_in, lookup_in, lseek_in, mkdir_in, mknod_in, of_length, open_in, opendir_in, read_in, readdir_in, readlink_in, release_in, releasedir_in, rename2_in, rename_in, rmdir_in, setattr_in, statfs_in, symlink_in, unlink_in, whence_of, where_set, write_in}
+use Rattle.fuse.specs.Bodies.{access_in, batch_forget_in, behind, changes_in, copy_file_range_in, create_in, destroy_in, fallocate_in, flush_in, forget_in, forgets_in, fsync_in, getattr_in, init_in, interrupt_in, link_in, lookup_in, lseek_in, mkdir_in, mknod_in, of_length, open_in, opendir_in, read_in, readdir_in, readlink_in, release_in, releasedir_in, rename2_in, rename_in, rmdir_in, setattr_in, statfs_in, symlink_in, unlink_in, whence_of, where_set, write_in}
 use Rattle.fuse.specs.Names.{name_and_text_in, name_in, names_in}
 use Rattle.fuse.specs.Numbers.{u32_at, u64_at}
 use Rattle.fuse.specs.Operations.{file_operation_in, is_answered, is_silent, node_operation_in, operation_in, session_operation_in}
@@ -106,6 +106,14 @@ lseek_tells body =
     let asked : Option Operation = option_map (λ from. op.Lseek (u64_at body 0) (u64_at body 8) from) (whence_of (u32_at body 16)) in
     either_tells true (eqb (length body) 24) asked None (map_tells (λ from. op.Lseek (u64_at body 0) (u64_at body 8) from) (whence_of (u32_at body 16)) (λ x. refl)) (none_tells true)
 
+fallocate_tells : (body : List ℕ) → Tells true (fallocate_in body)
+unfolding fallocate_in
+fallocate_tells body = of_length_tells true 32 body (op.Fallocate (u64_at body 0) (u64_at body 8) (u64_at body 16) (u32_at body 24)) refl
+
+copy_file_range_tells : (body : List ℕ) → Tells true (copy_file_range_in body)
+unfolding copy_file_range_in
+copy_file_range_tells body = of_length_tells true 56 body (op.CopyFileRange (u64_at body 0) (u64_at body 8) (u64_at body 16) (u64_at body 24) (u64_at body 32) (u64_at body 40) (u64_at body 48)) refl
+
 getattr_tells : (body : List ℕ) → Tells true (getattr_in body)
 unfolding getattr_in
 getattr_tells body = of_length_tells true 16 body (op.GetAttr (where_set (u32_at body 0) 1 (u64_at body 8))) refl
@@ -188,7 +196,9 @@ operation_tells opcode body =
     where_it_is 18 opcode P (eqb opcode 18) refl (release_tells body) (λ e18.
     where_it_is 20 opcode P (eqb opcode 20) refl (fsync_tells body) (λ e20.
     where_it_is 25 opcode P (eqb opcode 25) refl (flush_tells body) (λ e25.
+    where_it_is 43 opcode P (eqb opcode 43) refl (fallocate_tells body) (λ e43.
     where_it_is 46 opcode P (eqb opcode 46) refl (lseek_tells body) (λ e46.
+    where_it_is 47 opcode P (eqb opcode 47) refl (copy_file_range_tells body) (λ e47.
     where_it_is 3 opcode P (eqb opcode 3) refl (getattr_tells body) (λ e3.
     where_it_is 4 opcode P (eqb opcode 4) refl (setattr_tells body) (λ e4.
     where_it_is 5 opcode P (eqb opcode 5) refl (readlink_tells body) (λ e5.
@@ -202,4 +212,4 @@ operation_tells opcode body =
     where_it_is 36 opcode P (eqb opcode 36) refl (interrupt_tells body) (λ e36.
     where_it_is 38 opcode P (eqb opcode 38) refl (destroy_tells body) (λ e38.
     where_it_is 42 opcode P (eqb opcode 42) refl (batch_forget_tells body) (λ e42.
-    rw (e1, e6, e8, e9, e10, e11, e12, e13, e35, e45, e14, e15, e16, e18, e20, e25, e46, e3, e4, e5, e17, e27, e28, e29, e34, e2, e26, e36, e38, e42) (some_tells true (op.Other opcode) refl)))))))))))))))))))))))))))))))
+    rw (e1, e6, e8, e9, e10, e11, e12, e13, e35, e45, e14, e15, e16, e18, e20, e25, e43, e46, e47, e3, e4, e5, e17, e27, e28, e29, e34, e2, e26, e36, e38, e42) (some_tells true (op.Other opcode) refl)))))))))))))))))))))))))))))))))

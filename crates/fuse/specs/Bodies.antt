@@ -121,6 +121,19 @@ lseek_in body =
     option_map (λ from. op.Lseek (u64_at body 0) (u64_at body 8) from) (whence_of (u32_at body 16))
     else None
 
+-- handle, offset, length, mode and padding
+unfoldable pub fallocate_in : List ℕ → Option Operation
+fallocate_in body =
+    of_length 32 body
+    (op.Fallocate (u64_at body 0) (u64_at body 8) (u64_at body 16) (u32_at body 24))
+
+-- handle and offset, the other node with its handle and offset, length and flags
+unfoldable pub copy_file_range_in : List ℕ → Option Operation
+copy_file_range_in body =
+    of_length 56 body
+    (op.CopyFileRange (u64_at body 0) (u64_at body 8) (u64_at body 16) (u64_at body 24)
+    (u64_at body 32) (u64_at body 40) (u64_at body 48))
+
 -- ---- directories and nodes
 
 unfoldable pub readlink_in : List ℕ → Option Operation

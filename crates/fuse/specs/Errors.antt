@@ -20,6 +20,7 @@ number_of errno.EISDIR = 21
 number_of errno.EINVAL = 22
 number_of errno.EMFILE = 24
 number_of errno.EFBIG = 27
+number_of errno.ENOSPC = 28
 number_of errno.ESPIPE = 29
 number_of errno.EPIPE = 32
 number_of errno.ENAMETOOLONG = 36

@@ -7,7 +7,7 @@ use Rattle.fuse.specs.Bodies.{rename_in, rename2_in, link_in, create_in, open_in
 use Rattle.fuse.specs.Bodies.{release_in, fsync_in, flush_in, lseek_in, opendir_in, readdir_in}
 use Rattle.fuse.specs.Bodies.{releasedir_in, getattr_in, setattr_in, readlink_in, access_in}
 use Rattle.fuse.specs.Bodies.{statfs_in, init_in, destroy_in, interrupt_in, forget_in}
-use Rattle.fuse.specs.Bodies.{batch_forget_in}
+use Rattle.fuse.specs.Bodies.{batch_forget_in, copy_file_range_in, fallocate_in}
 
 -- of the session; each further one is told by its opcode alone
 unfoldable pub session_operation_in : ℕ → List ℕ → Option Operation
@@ -39,7 +39,9 @@ file_operation_in opcode body =
     else if opcode == 18 then release_in body
     else if opcode == 20 then fsync_in body
     else if opcode == 25 then flush_in body
-    else if opcode == 46 then lseek_in body else node_operation_in opcode body
+    else if opcode == 43 then fallocate_in body
+    else if opcode == 46 then lseek_in body
+    else if opcode == 47 then copy_file_range_in body else node_operation_in opcode body
 
 -- of names, and of all others
 unfoldable pub operation_in : ℕ → List ℕ → Option Operation

@@ -1,7 +1,8 @@
 // The bodies of requests without names.
 ghost use Rattle.std.specs.Prelude.{◌≡◌, ◌+◌, ◌≤◌, length};
-ghost use Rattle.fuse.specs.Bodies.{access_in, batch_forget_in, changes_in, destroy_in, flush_in};
-ghost use Rattle.fuse.specs.Bodies.{forget_in, fsync_in, getattr_in, init_in, interrupt_in};
+ghost use Rattle.fuse.specs.Bodies.{access_in, batch_forget_in, changes_in, copy_file_range_in};
+ghost use Rattle.fuse.specs.Bodies.{destroy_in, fallocate_in, flush_in, forget_in, fsync_in};
+ghost use Rattle.fuse.specs.Bodies.{getattr_in, init_in, interrupt_in};
 ghost use Rattle.fuse.specs.Bodies.{lseek_in, open_in, opendir_in, read_in, readdir_in, readlink_in};
 ghost use Rattle.fuse.specs.Bodies.{release_in, releasedir_in, setattr_in, statfs_in, time_change};
 ghost use Rattle.fuse.specs.Bodies.{is_set, whence_of, where_set, write_in};
@@ -127,6 +128,39 @@ pub(crate) fn lseek_in(body: &[u8]) -> Option<Operation>
         handle,
         offset,
         whence,
+    })
+}
+
+#[tactic(auto, unfolding(crate::specs::Bodies::fallocate_in))]
+pub(crate) fn fallocate_in(body: &[u8]) -> Option<Operation>
+    ensures { result ≡ fallocate_in body.now }
+{
+    if body.len() != 32 {
+        return None;
+    }
+    Some(Operation::Fallocate {
+        handle: u64_at(body, 0),
+        offset: u64_at(body, 8),
+        length: u64_at(body, 16),
+        mode: u32_at(body, 24),
+    })
+}
+
+#[tactic(auto, unfolding(crate::specs::Bodies::copy_file_range_in))]
+pub(crate) fn copy_file_range_in(body: &[u8]) -> Option<Operation>
+    ensures { result ≡ copy_file_range_in body.now }
+{
+    if body.len() != 56 {
+        return None;
+    }
+    Some(Operation::CopyFileRange {
+        handle: u64_at(body, 0),
+        offset: u64_at(body, 8),
+        to_node: u64_at(body, 16),
+        to_handle: u64_at(body, 24),
+        to_offset: u64_at(body, 32),
+        length: u64_at(body, 40),
+        flags: u64_at(body, 48),
     })
 }
 

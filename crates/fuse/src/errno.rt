@@ -37,6 +37,8 @@ pub enum Errno {
     EMFILE,
     /// The file would grow past the largest.
     EFBIG,
+    /// There is no space.
+    ENOSPC,
     /// A pipe has no offset.
     ESPIPE,
     /// Nobody can read from the pipe.
@@ -80,6 +82,7 @@ impl Errno {
             Errno::EINVAL => 22,
             Errno::EMFILE => 24,
             Errno::EFBIG => 27,
+            Errno::ENOSPC => 28,
             Errno::ESPIPE => 29,
             Errno::EPIPE => 32,
             Errno::ENAMETOOLONG => 36,

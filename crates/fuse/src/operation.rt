@@ -5,9 +5,9 @@ ghost use Rattle.fuse.specs.Operations.{file_operation_in, is_silent, node_opera
 ghost use Rattle.fuse.specs.Operations.{operation_in, session_operation_in};
 
 use crate::bodies::{
-    access_in, batch_forget_in, destroy_in, flush_in, forget_in, fsync_in, getattr_in, init_in,
-    interrupt_in, lseek_in, open_in, opendir_in, read_in, readdir_in, readlink_in, release_in,
-    releasedir_in, setattr_in, statfs_in, write_in,
+    access_in, batch_forget_in, copy_file_range_in, destroy_in, fallocate_in, flush_in, forget_in,
+    fsync_in, getattr_in, init_in, interrupt_in, lseek_in, open_in, opendir_in, read_in,
+    readdir_in, readlink_in, release_in, releasedir_in, setattr_in, statfs_in, write_in,
 };
 use crate::fault::{BodyFault, asked};
 use crate::named::{
@@ -73,9 +73,13 @@ const DESTROY: u32 = 38;
 
 const BATCH_FORGET: u32 = 42;
 
+const FALLOCATE: u32 = 43;
+
 const RENAME2: u32 = 45;
 
 const LSEEK: u32 = 46;
+
+const COPY_FILE_RANGE: u32 = 47;
 
 // Whether a request of this opcode has no answer.
 pub(crate) fn is_silent(opcode: u32) -> bool
@@ -126,7 +130,9 @@ fn file_operation_in(heap: Heap, opcode: u32, body: &[u8]) -> Result<Operation, 
         RELEASE => asked(release_in(body)),
         FSYNC => asked(fsync_in(body)),
         FLUSH => asked(flush_in(body)),
+        FALLOCATE => asked(fallocate_in(body)),
         LSEEK => asked(lseek_in(body)),
+        COPY_FILE_RANGE => asked(copy_file_range_in(body)),
         _ => node_operation_in(heap, opcode, body),
     }
 }

@@ -227,6 +227,34 @@ pub enum Operation {
         /// From where it counts.
         whence: Whence,
     },
+    /// Keeps a range of an open file for it, or makes zeros of it.
+    Fallocate {
+        /// The open file.
+        handle: u64,
+        /// Where the range begins.
+        offset: u64,
+        /// How many bytes it has.
+        length: u64,
+        /// The mode of `fallocate`: 1 to keep the length, 2 to make zeros of the range.
+        mode: u32,
+    },
+    /// Copies bytes of an open file into another one.
+    CopyFileRange {
+        /// The open file that they are of.
+        handle: u64,
+        /// Where they begin there.
+        offset: u64,
+        /// The node of the one that they are put into.
+        to_node: u64,
+        /// That open file.
+        to_handle: u64,
+        /// Where they begin there.
+        to_offset: u64,
+        /// How many, at most.
+        length: u64,
+        /// The flags of `copy_file_range`, of which there are none.
+        flags: u64,
+    },
     /// Begins the session.
     Init {
         /// The version of the kernel's protocol before the point.

@@ -16,6 +16,7 @@ enum Kind {
     Byte,
     Offset,
     Whence,
+    Space,
     Length,
     Target,
     Special,
@@ -27,7 +28,7 @@ enum Kind {
 // them.
 type Form = (u64, &'static str, &'static [Kind]);
 
-static FORMS: [Form; 39] = [
+static FORMS: [Form; 41] = [
     (3, "begin", &[]),
     (3, "begin RESTART", &[]),
     (1, "begin ABORT_UNSUPPORTED", &[]),
@@ -47,14 +48,20 @@ static FORMS: [Form; 39] = [
         "pfill",
         &[Kind::Descriptor, Kind::FillCount, Kind::Byte, Kind::Offset],
     ),
-    (3, "lseek", &[Kind::Descriptor, Kind::Offset, Kind::Whence]),
+    (4, "lseek", &[Kind::Descriptor, Kind::Offset, Kind::Whence]),
     (2, "ftruncate", &[Kind::Descriptor, Kind::Length]),
     (2, "truncate", &[Kind::Path, Kind::Length]),
+    (
+        3,
+        "fallocate",
+        &[Kind::Descriptor, Kind::Offset, Kind::Offset, Kind::Space],
+    ),
     (3, "stat", &[Kind::Path]),
     (2, "fstat", &[Kind::Descriptor]),
     (3, "link", &[Kind::Path, Kind::Path]),
     (3, "unlink", &[Kind::Path]),
     (4, "rename", &[Kind::Path, Kind::Path]),
+    (4, "exchange", &[Kind::Path, Kind::Path]),
     (5, "mkdir", &[Kind::Path]),
     (3, "rmdir", &[Kind::Path]),
     (3, "list", &[Kind::Path]),
@@ -74,7 +81,7 @@ static FORMS: [Form; 39] = [
 ];
 
 // The sum of the shares.
-const SHARES: u64 = 102;
+const SHARES: u64 = 110;
 
 static PATHS: [&str; 32] = [
     "/", "/a", "/a", "/a", "/a", "/a", "/a", "/b", "/b", "/b", "/b", "/b", "/f", "/f", "/f", "/f",
@@ -166,7 +173,9 @@ static OFFSETS: [&str; 22] = [
     "-9223372036854775808",
 ];
 
-static WHENCES: [&str; 4] = ["SET", "SET", "CUR", "END"];
+static WHENCES: [&str; 7] = ["SET", "SET", "CUR", "END", "DATA", "HOLE", "HOLE"];
+
+static SPACES: [&str; 4] = ["GROW", "KEEP", "PUNCH", "PUNCH"];
 
 static LENGTHS: [&str; 14] = [
     "0",
@@ -196,6 +205,7 @@ fn words_of(kind: Kind) -> &'static [&'static str] {
         Kind::Byte => &BYTES,
         Kind::Offset => &OFFSETS,
         Kind::Whence => &WHENCES,
+        Kind::Space => &SPACES,
         Kind::Length => &LENGTHS,
         Kind::Target => &TARGETS,
         Kind::Special => &SPECIALS,

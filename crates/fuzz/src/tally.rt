@@ -58,7 +58,7 @@ fn kind_of(reply: &Reply) -> usize {
 }
 
 // How many calls there are.
-const CALL_COUNT: usize = 30;
+const CALL_COUNT: usize = 32;
 
 // The calls, in the order of their indices.
 pub(crate) static CALLS: [&str; CALL_COUNT] = [
@@ -71,11 +71,13 @@ pub(crate) static CALLS: [&str; CALL_COUNT] = [
     "lseek",
     "ftruncate",
     "truncate",
+    "fallocate",
     "stat",
     "fstat",
     "link",
     "unlink",
     "rename",
+    "exchange",
     "mkdir",
     "rmdir",
     "list",
@@ -108,27 +110,29 @@ fn index_of(call: &Call) -> usize
         Call::Lseek(_, _, _) => 6,
         Call::Ftruncate(_, _) => 7,
         Call::Truncate(_, _) => 8,
-        Call::Stat(_) => 9,
-        Call::Fstat(_) => 10,
-        Call::Link(_, _) => 11,
-        Call::Unlink(_) => 12,
-        Call::Rename(_, _) => 13,
-        Call::Mkdir(_) => 14,
-        Call::Rmdir(_) => 15,
-        Call::List(_) => 16,
-        Call::Symlink(_, _) => 17,
-        Call::Readlink(_) => 18,
-        Call::Lstat(_) => 19,
-        Call::Mknod(_, _) => 20,
-        Call::Chmod(_, _) => 21,
-        Call::Chown(_, _) => 22,
-        Call::Fchmod(_, _) => 23,
-        Call::Fchown(_, _) => 24,
-        Call::Dup(_) => 25,
-        Call::Dup2(_, _) => 26,
-        Call::Pipe => 27,
-        Call::Fork => 28,
-        Call::Exit => 29,
+        Call::Fallocate(_, _, _, _) => 9,
+        Call::Stat(_) => 10,
+        Call::Fstat(_) => 11,
+        Call::Link(_, _) => 12,
+        Call::Unlink(_) => 13,
+        Call::Rename(_, _) => 14,
+        Call::Exchange(_, _) => 15,
+        Call::Mkdir(_) => 16,
+        Call::Rmdir(_) => 17,
+        Call::List(_) => 18,
+        Call::Symlink(_, _) => 19,
+        Call::Readlink(_) => 20,
+        Call::Lstat(_) => 21,
+        Call::Mknod(_, _) => 22,
+        Call::Chmod(_, _) => 23,
+        Call::Chown(_, _) => 24,
+        Call::Fchmod(_, _) => 25,
+        Call::Fchown(_, _) => 26,
+        Call::Dup(_) => 27,
+        Call::Dup2(_, _) => 28,
+        Call::Pipe => 29,
+        Call::Fork => 30,
+        Call::Exit => 31,
     }
 }
 

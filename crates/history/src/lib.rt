@@ -4,18 +4,19 @@
 ghost use Rattle.std.specs.Prelude.{◌≡◌, ◌<◌, ◌≤◌, ◌↔◌, ◌+◌, ◌^◌, IfOk, IsErr, IfErr, OnOk, OnErr};
 ghost use Rattle.std.specs.Prelude.{[], ◌∷◌, ◌++◌, length, sum, true, false};
 ghost use Rattle.history.specs.Log.{all_forgotten, kept};
-ghost use Rattle.ids.specs.declared.limits.TheConstants.{DEFAULT_LARGEST_FILE, LARGEST_FILE};
+ghost use Rattle.ids.specs.Bounds.{bounds_of, given_by_default};
+ghost use Rattle.ids.specs.declared.limits.TheConstants.{LARGEST_FILE};
 
 mod past;
 
 use crate::past::Past;
 use heap::Heap;
-use ids::{Entry, Limits, Priority};
+use ids::{Bounds, Entry, Limits, Priority};
 use std::alloc::AllocError;
 use std::marker::Model;
 
 /// The entries so far, the priorities that the first processes have, how many entries may be
-/// kept, and the most bytes of a file. The memory of all places is taken when the history is made, so that an entry that has a
+/// kept, and the kernel's bounds. The memory of all places is taken when the history is made, so that an entry that has a
 /// place needs none. Entries that are forgotten give their memory and their places back; clauses
 /// go on to speak of them.
 pub struct History {
@@ -39,6 +40,7 @@ impl Drop for History {
 }
 
 impl Model for History {
+    ghost use Rattle.ids.specs.Bounds.{bounds_of};
     ghost use Rattle.ids.specs.declared.limits.TheConstants.{LARGEST_FILE};
     ghost use Rattle.std.specs.Prelude.{◌≡◌, ◌<◌, ◌≤◌, ◌^◌, ◌++◌, sum, vec_len, vec_capacity};
     ghost use Rattle.history.specs.Log.{Log};
@@ -51,7 +53,7 @@ impl Model for History {
       priorities = h.priorities.items;
       limit = h.limits.entries;
       forgotten = counts_in h.past;
-      largest = h.limits.file_bytes;
+      bounds = bounds_of h.limits;
     } };
 
     ghost invariant = { λ h. (vec_len h.entries ≤ h.limits.entries) × (h.limits.entries ≤ vec_capacity h.entries)
@@ -63,14 +65,14 @@ impl Model for History {
 const MOST_FORGOTTEN: u64 = (1 << 63) - 1;
 
 impl History {
-    /// No entries, with the memory of `limit` of them, of a kernel with files of at most
-    /// [`ids::DEFAULT_LARGEST_FILE`] bytes. Refused memory gives nothing.
+    /// No entries, with the memory of `limit` of them, of a kernel with the bounds where none are given
+    /// ([`ids::Bounds::given_by_default`]). Refused memory gives nothing.
     pub fn new(heap: Heap, priorities: &[Priority], limit: usize) -> Result<History, AllocError>
         ensures empty { IfOk result (λ h. h.entries ≡ []) }
         ensures priorities { IfOk result (λ h. h.priorities ≡ priorities.now) }
         ensures limit { IfOk result (λ h. h.limit ≡ limit) }
         ensures whole { IfOk result (λ h. h.forgotten ≡ []) }
-        ensures largest { IfOk result (λ h. h.largest ≡ DEFAULT_LARGEST_FILE) }
+        ensures bounds { IfOk result (λ h. h.bounds ≡ given_by_default) }
     {
         History::with_limits(heap, priorities, Limits::of_entries(limit))
     }
@@ -87,7 +89,7 @@ impl History {
         ensures priorities { IfOk result (λ h. h.priorities ≡ priorities.now) }
         ensures limit { IfOk result (λ h. h.limit ≡ limits.entries) }
         ensures whole { IfOk result (λ h. h.forgotten ≡ []) }
-        ensures largest { IfOk result (λ h. h.largest ≡ limits.file_bytes) }
+        ensures bounds { IfOk result (λ h. h.bounds ≡ bounds_of limits) }
     {
         // Of more entries no allocator has the memory.
         if limits.entries as u64 > MOST_FORGOTTEN {
@@ -182,9 +184,17 @@ impl History {
         self.limits.entries
     }
 
+    /// What the calls of the kernel keep within.
+    pub fn bounds(&self) -> Bounds
+        ensures value { result ≡ self.now.bounds }
+        ensures small { result.file_bytes ≤ LARGEST_FILE }
+    {
+        self.limits.bounds()
+    }
+
     /// The most bytes that a file of the kernel may have.
     pub fn largest_file(&self) -> u32
-        ensures value { result ≡ self.now.largest }
+        ensures value { result ≡ self.now.bounds.file_bytes }
         ensures small { result ≤ LARGEST_FILE }
     {
         self.limits.file_bytes

@@ -18,7 +18,7 @@ use Rattle.history_laws.specs.Entered.{PhasesMove, OwnAndDoomedMove, ReservedPla
 use Rattle.history_laws.specs.Forgetting.{ForgettingIsLegal}
 use Rattle.history_laws.specs.Headline.{IsSerializable, LegalHistoriesAreSerializable}
 use Rattle.history_laws.specs.Histories.{RightEntriesKeepHistoriesLegal, CommittedIsSerial, PlacesSuffice, RepliesAreAFunction, RightEntriesHavePlaces, BeginningsAreLegal, OwnEntriesGrow, AfterOneMore, ViewsMayBeLoose, TouchedObjectsStay}
-use Rattle.history_laws.specs.Limits.{LimitsAreKept, LargestIsGiven}
+use Rattle.history_laws.specs.Limits.{LimitsAreKept, BoundsAreGiven}
 use Rattle.history_laws.specs.Marks.{ModesFollowMarks}
 use Rattle.history_laws.specs.Processes.{child_in, ChildrenAreForked, ForksAndExitsMove, UnmadeAreRefused}
 use Rattle.history_laws.specs.Processes.{born as makes}
@@ -29,7 +29,7 @@ use Rattle.history_laws.proofs.Causes as causes
 use Rattle.history_laws.proofs.Choices as choices
 use Rattle.history_laws.proofs.Forgetting as forgetting
 use Rattle.history_laws.proofs.Histories as histories
-use Rattle.history_laws.proofs.Largest as largest
+use Rattle.history_laws.proofs.Bounds as bounds
 use Rattle.history_laws.proofs.Limits as limits
 use Rattle.history_laws.proofs.Marks as marks
 use Rattle.history_laws.proofs.Replies as replies
@@ -149,9 +149,9 @@ tree_at root setup limit es state legal is = subst IsATree (sym is) (committed_d
 pub limits_are_kept : LimitsAreKept
 limits_are_kept = limits.limits calls_are_lawful_lem
 
--- each state has the largest file that was given at the start: Largest.antt
-pub largest_is_given : LargestIsGiven
-largest_is_given = largest.largest_is_given
+-- each state has the bounds that were given at the start: Bounds.antt
+pub bounds_are_given : BoundsAreGiven
+bounds_are_given = bounds.bounds_are_given
 
 -- the committed state is the run of the serial list: Legality.antt
 pub the_committed_state_is_serial : CommittedIsSerial

@@ -16,5 +16,5 @@ mod Causes
 mod Serializable
 mod Trees
 mod Limits
-mod Largest
+mod Bounds
 pub mod Laws

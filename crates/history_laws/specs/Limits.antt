@@ -1,7 +1,10 @@
--- The plain kernel's limits are never passed: fork, write, ftruncate, lseek and symlink refuse what
--- would pass them (EAGAIN, EFBIG, EINVAL and ENAMETOOLONG of POSIX.1-2017, which leaves the numbers
--- to the implementation).
-use Rattle.std.specs.Prelude.{◌≡◌, ℕ, ◌≤◌, List, length}
+-- The plain kernel's limits are never passed: fork, write, ftruncate, fallocate, lseek, symlink, open,
+-- dup and pipe refuse what would pass them (EAGAIN, EFBIG, EINVAL, ENAMETOOLONG and EMFILE of
+-- POSIX.1-2017, which leaves the numbers to the implementation; of fallocate Linux).
+use Rattle.std.specs.Prelude.{◌≡◌, ℕ, ◌≤◌, ◌<◌, List, Some, length}
+use Rattle.model.specs.FiniteMap.{get}
+use Rattle.model.specs.Changes.{process_of}
+use Rattle.call_laws.specs.WellFormed.{most_descriptors}
 use Rattle.model.specs.State.{Kernel, file_of, pipe_of, target_of, offset_of}
 pub use Rattle.model.specs.Limits.{most_processes, capacity, target_limit}
 use Rattle.model.specs.Entries.{Entry}
@@ -14,15 +17,22 @@ use Rattle.model.specs.Legal.{Legal}
 -- largest file.
 pub record IsWithinLimits (k : Kernel) : Type 0 where
   pub made : k.made ≤ most_processes
-  pub files : (n : ℕ) → length (file_of k n) ≤ k.largest
+  pub files : (n : ℕ) → length (file_of k n) ≤ k.bounds.file_bytes
   pub pipes : (p : ℕ) → length (pipe_of k p) ≤ capacity
   pub targets : (n : ℕ) → length (target_of k n) ≤ target_limit
-  pub offsets : (d : ℕ) → offset_of k d ≤ k.largest
+  pub offsets : (d : ℕ) → offset_of k d ≤ k.bounds.file_bytes
+
+-- each open descriptor is below the kernel's own number of them
+abbrev pub HasLowDescriptors : Kernel → Type 0
+HasLowDescriptors k =
+    (pid f d : ℕ) → get (process_of k pid).table f ≡ Some d → f < most_descriptors k
 
 -- what is committed, and what each process sees
 pub record StaysWithinLimits (m : Moment) : Type 0 where
   pub committed : IsWithinLimits m.committed
   pub seen : (pid : ℕ) → IsWithinLimits (seen_by m pid)
+  pub descriptors : HasLowDescriptors m.committed
+  pub seen_descriptors : (pid : ℕ) → HasLowDescriptors (seen_by m pid)
 
 -- A legal history that starts with no more processes stays within the limits.
 abbrev pub LimitsAreKept : Type 0
@@ -30,10 +40,10 @@ LimitsAreKept = (root : ℕ) (setup : Setup) (limit : Limit) (es : List Entry)
     → Legal root setup limit es → length setup.priorities ≤ most_processes
     → StaysWithinLimits (after root setup es)
 
--- What is committed and what each process sees have the largest file that was given at the start.
-pub record KeepsItsLargest (root : ℕ) (setup : Setup) (es : List Entry) : Type 0 where
-  pub committed : (after root setup es).committed.largest ≡ setup.largest
-  pub seen : (q : ℕ) → (seen_by (after root setup es) q).largest ≡ setup.largest
+-- What is committed and what each process sees have the bounds that were given at the start.
+pub record KeepsItsBounds (root : ℕ) (setup : Setup) (es : List Entry) : Type 0 where
+  pub committed : (after root setup es).committed.bounds ≡ setup.bounds
+  pub seen : (q : ℕ) → (seen_by (after root setup es) q).bounds ≡ setup.bounds
 
-abbrev pub LargestIsGiven : Type 0
-LargestIsGiven = (root : ℕ) (setup : Setup) (es : List Entry) → KeepsItsLargest root setup es
+abbrev pub BoundsAreGiven : Type 0
+BoundsAreGiven = (root : ℕ) (setup : Setup) (es : List Entry) → KeepsItsBounds root setup es

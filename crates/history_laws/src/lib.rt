@@ -25,7 +25,7 @@ ghost use Rattle.history_laws.specs.Histories.{PlacesSuffice, RepliesAreAFunctio
 ghost use Rattle.history_laws.specs.Histories.{RightEntriesHavePlaces, BeginningsAreLegal};
 ghost use Rattle.history_laws.specs.Histories.{OwnEntriesGrow, AfterOneMore, ViewsMayBeLoose};
 ghost use Rattle.history_laws.specs.Histories.{TouchedObjectsStay};
-ghost use Rattle.history_laws.specs.Limits.{LimitsAreKept, LargestIsGiven};
+ghost use Rattle.history_laws.specs.Limits.{LimitsAreKept, BoundsAreGiven};
 ghost use Rattle.history_laws.specs.Marks.{ModesFollowMarks};
 ghost use Rattle.history_laws.specs.Processes.{ChildrenAreForked, ForksAndExitsMove};
 ghost use Rattle.history_laws.specs.Processes.{UnmadeAreRefused};
@@ -44,16 +44,17 @@ pub fn committed_directories_are_a_tree()
     ensures { CommittedDirectoriesAreATree }
 {}
 
-/// No file, pipe or offset is ever larger than it may be, and no more processes are made.
+/// No file, pipe or offset is ever larger than it may be, no descriptor is at or above the kernel's own
+/// number of them, and no more processes are made.
 /// Proved in `proofs/Limits.antt`.
 pub fn limits_are_kept()
     ensures { LimitsAreKept }
 {}
 
-/// The most bytes of a file stay what they were at the start.
-/// Proved in `proofs/Largest.antt`.
-pub fn largest_is_given()
-    ensures { LargestIsGiven }
+/// The bounds stay what they were at the start.
+/// Proved in `proofs/Bounds.antt`.
+pub fn bounds_are_given()
+    ensures { BoundsAreGiven }
 {}
 
 /// After a legal history each right entry gives a legal history.

@@ -1,3 +1,4 @@
+pub mod Bounds
 pub mod Errnos
 pub mod Fixed
 pub mod Flags

@@ -17,6 +17,22 @@ pub enum Whence {
     Cur,
     /// From the end.
     End,
+    /// From the first byte, on to what is no hole (Linux, `lseek`: `SEEK_DATA`).
+    Data,
+    /// From the first byte, on to a hole, or to the end (`SEEK_HOLE`).
+    Hole,
+}
+
+/// What `fallocate` does to a range of a file (Linux, `fallocate`: no flag, `FALLOC_FL_KEEP_SIZE`, and
+/// that with `FALLOC_FL_PUNCH_HOLE`).
+#[derive(Clone, Copy, Debug, PartialEq, Eq)]
+pub enum Space {
+    /// The file reaches to the end of the range at least.
+    Grow,
+    /// Nothing that shows.
+    Keep,
+    /// The bytes of the range that the file has become zero.
+    Punch,
 }
 
 /// A call (POSIX.1-2017, by the function of each name). Paths are bytes as they were given. No walk
@@ -42,6 +58,8 @@ pub enum Call {
     Ftruncate(Fd, u32),
     /// Cuts or grows the file of a path to a length.
     Truncate(Bytes, u32),
+    /// Makes room in a file from an offset on, so many bytes, or makes a hole there.
+    Fallocate(Fd, i64, i64, Space),
     /// Tells about the object of a path, which is no symbolic link.
     Stat(Bytes),
     /// Tells about the object of a descriptor.
@@ -52,6 +70,8 @@ pub enum Call {
     Unlink(Bytes),
     /// Moves what the first path gives to the second.
     Rename(Bytes, Bytes),
+    /// Gives each of two paths what the other gives (Linux, `renameat2`: `RENAME_EXCHANGE`).
+    Exchange(Bytes, Bytes),
     /// Makes an empty directory.
     Mkdir(Bytes),
     /// Removes an empty directory.
@@ -98,11 +118,13 @@ impl Drop for Call {
             Call::Lseek(_, _, _) => {}
             Call::Ftruncate(_, _) => {}
             Call::Truncate(_, _) => {}
+            Call::Fallocate(_, _, _, _) => {}
             Call::Stat(_) => {}
             Call::Fstat(_) => {}
             Call::Link(_, _) => {}
             Call::Unlink(_) => {}
             Call::Rename(_, _) => {}
+            Call::Exchange(_, _) => {}
             Call::Mkdir(_) => {}
             Call::Rmdir(_) => {}
             Call::List(_) => {}
@@ -138,6 +160,9 @@ impl Call {
             Call::Lseek(fd, offset, whence) => Ok(Call::Lseek(*fd, *offset, *whence)),
             Call::Ftruncate(fd, length) => Ok(Call::Ftruncate(*fd, *length)),
             Call::Truncate(path, length) => Ok(Call::Truncate(path.try_clone()?, *length)),
+            Call::Fallocate(fd, offset, length, space) => {
+                Ok(Call::Fallocate(*fd, *offset, *length, *space))
+            }
             Call::Stat(path) => Ok(Call::Stat(path.try_clone()?)),
             Call::Fstat(fd) => Ok(Call::Fstat(*fd)),
             Call::Link(old, new) => {
@@ -148,6 +173,10 @@ impl Call {
             Call::Rename(old, new) => {
                 let (old, new) = paths_copied(old, new)?;
                 Ok(Call::Rename(old, new))
+            }
+            Call::Exchange(old, new) => {
+                let (old, new) = paths_copied(old, new)?;
+                Ok(Call::Exchange(old, new))
             }
             Call::Mkdir(path) => Ok(Call::Mkdir(path.try_clone()?)),
             Call::Rmdir(path) => Ok(Call::Rmdir(path.try_clone()?)),

@@ -1,9 +1,10 @@
 // Objects whose content never changes.
-ghost use Rattle.std.specs.Prelude.{◌≡◌, IfOk};
+ghost use Rattle.std.specs.Prelude.{◌≡◌, ◌≤◌, IfOk, length};
 ghost use Rattle.ids.specs.Fixed.{fixed_kind, fixed_target, special_object};
+ghost use Rattle.ids.specs.declared.limits.TheConstants.{TARGET_LIMIT};
 
-use crate::bytes::Bytes;
 use crate::reply::Kind;
+use crate::target::Target;
 use std::alloc::AllocError;
 
 /// An object whose content never changes. It has names as a file has, and no description is ever of
@@ -11,7 +12,7 @@ use std::alloc::AllocError;
 #[derive(Debug)]
 pub enum Fixed {
     /// A symbolic link, with its target.
-    Link(Bytes),
+    Link(Target),
     /// A FIFO, which is a name and has no content.
     Fifo,
     /// A socket, which is a name and has no content.
@@ -53,7 +54,8 @@ impl Fixed {
 
     /// A symbolic link's target, empty for what has none.
     pub fn target(&self) -> &[u8]
-        ensures { result.now ≡ fixed_target self.now }
+        ensures value { result.now ≡ fixed_target self.now }
+        ensures small { length result.now ≤ TARGET_LIMIT }
     {
         match self {
             Fixed::Link(target) => target.as_slice(),

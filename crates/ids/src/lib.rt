@@ -18,20 +18,23 @@ mod lists;
 mod number;
 mod reply;
 mod rights;
+mod target;
 
 pub use aspect::{Aspect, Cause, Touch, Why};
 pub use bytes::{Bytes, Name, NameList};
-pub use call::{Call, Op, Whence};
+pub use call::{Call, Op, Space, Whence};
 pub use edit::{Edit, Mode, Replaced, Slot, Which};
 pub use entry::{Entry, ListMode, Rank};
 pub use errno::{Errno, Refusal};
 pub use fixed::{Fixed, Special};
 pub use flags::{BeginFlags, OpenFlags};
 pub use limits::{
-    BLOCK_LEN, DEFAULT_LARGEST_FILE, DESCRIPTORS, LARGEST_FILE, Limits, MAX_ENTRIES, MAX_PROCESSES,
-    MOST_MOVED, NAME_LIMIT, PATH_LIMIT, PIPE_CAPACITY, TARGET_LIMIT, WHOLE_WRITE,
+    BLOCK_LEN, Bounds, DEFAULT_DESCRIPTORS, DEFAULT_LARGEST_FILE, DEFAULT_PATH_LIMIT, DESCRIPTORS,
+    LARGEST_FILE, Limits, MAX_ENTRIES, MAX_PROCESSES, MOST_MOVED, NAME_LIMIT, PATH_LIMIT,
+    PIPE_CAPACITY, TARGET_LIMIT, WHOLE_WRITE,
 };
 pub use lists::{Nums, Pids};
 pub use number::{Age, Fd, Num, Pid, Priority};
 pub use reply::{Answer, Kind, Reply, Stat};
 pub use rights::{NewOwner, Owner, Permissions, Rights};
+pub use target::Target;

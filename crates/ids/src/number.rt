@@ -31,7 +31,8 @@ impl Model for Num {
     ghost inverse = { λ n. record { 0 = n } };
 }
 
-/// A descriptor of a process. Open descriptors are 0 to 63; an operation may name any.
+/// A descriptor of a process. Open descriptors are below the kernel's number of them; an operation may
+/// name any.
 #[derive(Clone, Copy, Debug, Default, PartialEq, Eq, PartialOrd, Ord)]
 pub struct Fd(pub u32);
 

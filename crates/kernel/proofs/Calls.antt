@@ -9,10 +9,10 @@ use Rattle.kernel.proofs.Words.{IsDoomedBy, Doomed, effect, made_by, AreNew, wit
 use Rattle.kernel.proofs.Words.{calling, limit_of, setup_of, moment, Fields, Dooms, CanEnter, IsIn, Moves, part_at, part_of, shown_by, changes_of, doomed_by, is_no_entry, is_some}
 use Rattle.kernel.proofs.Words.{Edit, FitsAll, is_alive, sum_by, news, distinct, with_touches, with_touches-append, Make_directory}
 use Rattle.kernel.proofs.Words.{Unname_directory, Touch, touches, counted, counting, all_done, CanEdit, Committed, IsPlan, IsPlanWithoutTouches, Plans, Prepares, Part, Live}
-use Rattle.model.specs.Changes.{Make_file, Make_fixed, Name_file, Unname_file, Move, Put_bytes, Cut, Open_inode, Set_offset, Set_rights, Share_slot, Clear_slot, Make_pipe, Take, Append, New_process, End_process}
+use Rattle.model.specs.Changes.{Make_file, Make_fixed, Name_file, Unname_file, Swap, Wipe, Move, Put_bytes, Cut, Open_inode, Set_offset, Set_rights, Share_slot, Clear_slot, Make_pipe, Take, Append, New_process, End_process}
 use Rattle.call_laws.specs.Fits.{Fits}
 use Rattle.shadow.specs.Looks.{DirectoriesAreKept}
-use Rattle.shadow.specs.Steps.{IsOne, IsLast}
+use Rattle.notes.specs.Steps.{IsOne, IsLast}
 use Rattle.kernel.specs.States.{IsBirth, IsExit}
 use Rattle.freeing_laws.specs.Sweep.{IsTidied}
 use Rattle.freeing_laws.proofs.Laws.{sweep_is_tidy_lem}
@@ -47,7 +47,9 @@ first_parents v kept chosen (Name_file d x n) fit is = (kept d fit.0.parent.dire
 first_parents v kept chosen (Unname_file d x n) fit is = tt
 first_parents v kept chosen (Unname_directory d x n) fit is = tt
 first_parents v kept chosen (Move d x e y n replaced) fit is = (kept e fit.onto.directory, tt)
+first_parents v kept chosen (Swap d x n e y m) fit is = (kept d fit.first.parent.directory, (kept e fit.second.parent.directory, tt))
 first_parents v kept chosen (Put_bytes n place bytes before) fit is = tt
+first_parents v kept chosen (Wipe n place count) fit is = tt
 first_parents v kept chosen (Cut n before later) fit is = tt
 first_parents v kept chosen (Open_inode i inode mode pid f) fit is = tt
 first_parents v kept chosen (Set_offset d place) fit is = tt
@@ -66,7 +68,7 @@ last_parents v m (Share_slot pid f d pipes) is = tt
 last_parents v m (Clear_slot pid f pipes) is = tt
 last_parents v m e is = absurd is
 
-inside_parents : (v : Committed) (pid : ℕ) (call : Call) → WellFormed v.state → v.state.largest ≤ largest_file → is_alive v.state pid ≡ true → DirectoriesAreKept v → is_inside call ≡ true → HaveParents v.reserves (edits v.state pid call)
+inside_parents : (v : Committed) (pid : ℕ) (call : Call) → WellFormed v.state → v.state.bounds.file_bytes ≤ largest_file → is_alive v.state pid ≡ true → DirectoriesAreKept v → is_inside call ≡ true → HaveParents v.reserves (edits v.state pid call)
 inside_parents v pid call well low alive kept inside =
     let can = can_be_made v.state pid call well alive in
     by can.0 (edits v.state pid call) (calls_edit v.state pid well low call inside) (fits v.state pid call can.0 can.1)
@@ -77,7 +79,7 @@ inside_parents v pid call well low alive kept inside =
     by chosen (e ∷ f ∷ []) can fit = (first_parents v kept chosen e fit.0 (inl can.0), (last_parents v (news e) f can.2, tt))
     by chosen (e ∷ f ∷ g ∷ es) can fit = absurd can
 
-have_parents : (v : Committed) (pid : ℕ) (call : Call) → WellFormed v.state → v.state.largest ≤ largest_file → is_alive v.state pid ≡ true → DirectoriesAreKept v → HaveParents v.reserves (edits v.state pid call)
+have_parents : (v : Committed) (pid : ℕ) (call : Call) → WellFormed v.state → v.state.bounds.file_bytes ≤ largest_file → is_alive v.state pid ≡ true → DirectoriesAreKept v → HaveParents v.reserves (edits v.state pid call)
 have_parents v pid Fork well low alive kept = elim (fork_comes v.state pid) [
   | inl refused ↦ subst (HaveParents v.reserves) (sym refused.1) tt
   | inr made ↦ subst (HaveParents v.reserves) (sym made.3) (tt, tt)
@@ -183,12 +185,12 @@ steadily k pid call inside =
     let none = childless k pid call inside in
     record { childless = none.0; unborn = none.1; stays = goes_on call (reply k pid call) inside }
 
-inside_fate : (k : Kernel) (pid : ℕ) (call : Call) → WellFormed k → k.largest ≤ largest_file → is_inside call ≡ true → Steadily k pid call
+inside_fate : (k : Kernel) (pid : ℕ) (call : Call) → WellFormed k → k.bounds.file_bytes ≤ largest_file → is_inside call ≡ true → Steadily k pid call
 inside_fate k pid call well low inside =
     let calm = steadily k pid call inside in
     record { childless = calm.childless; unborn = calm.unborn; stays = calm.stays; edits = calls_edit k pid well low call inside }
 
-fate : (k : Kernel) (pid : ℕ) → WellFormed k → k.largest ≤ largest_file → (call : Call) → Steadily k pid call ⊎ (Bears k pid call ⊎ Leaves k pid call)
+fate : (k : Kernel) (pid : ℕ) → WellFormed k → k.bounds.file_bytes ≤ largest_file → (call : Call) → Steadily k pid call ⊎ (Bears k pid call ⊎ Leaves k pid call)
 fate k pid well low Fork = elim (fork_comes k pid) [
   | inl refused ↦
       let says = ap answered refused.0 in

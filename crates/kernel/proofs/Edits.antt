@@ -12,17 +12,17 @@ use Rattle.model.specs.Limits.{largest_file}
 use Rattle.model.specs.Plan.{Errno, Plan, Give, answer as answer_to, given, ◌>>=◌, ◌>>◌, ENOENT, ENOTDIR, ENOTEMPTY, EEXIST, EBUSY, EISDIR, EINVAL, EBADF, EFBIG, ELOOP, ENAMETOOLONG, ENXIO, EPERM, ESPIPE, EPIPE, EAGAIN, List_names, refuse_if, or_refuse}
 use Rattle.model.specs.Entries.{is_inside}
 use Rattle.kernel.specs.States.{CanChange}
-use Rattle.model.specs.Calls.{Call, Dup, Dup2, Open, Close, Read, Pread, Write, Pwrite, Lseek, Ftruncate, Truncate, Stat, Fstat, Link, Unlink, Rename, Mkdir, Rmdir, List_directory, Symlink, Readlink, Lstat, Mknod, Chmod, Chown, Fchmod, Fchown, Open_pipe, Fork, Exit, Child, OpenFlags, Own, Slot, slot_of, own}
+use Rattle.model.specs.Calls.{Call, Dup, Dup2, Open, Close, Read, Pread, Write, Pwrite, Lseek, Ftruncate, Truncate, Stat, Fstat, Link, Unlink, Rename, Exchange, Fallocate, Space, Grow, Keep, Punch, Mkdir, Rmdir, List_directory, Symlink, Readlink, Lstat, Mknod, Chmod, Chown, Fchmod, Fchown, Open_pipe, Fork, Exit, Child, OpenFlags, Own, Slot, slot_of, own}
 use Rattle.model.specs.Changes.{process_of, There, New_process}
 use Rattle.model.specs.Paths.{is_empty, is_below}
 use Rattle.model.specs.Walks.{Place, Last, parsed, walk, last_of, is_directory, is_link}
-use Rattle.model.specs.Plans.{Change, duplicated, plan, status as told_status, absent, slot, free, free_from, first_of_free, is_pipe, is_special, opened, cut_to, read_some, write_some, offset_named, write_from, read_pipe, piped, pipes_in, whole_write, most_processes, place_to_write, base, sought, moved, replaced_by_name, room, most_moved, descriptor_limit, target_limit}
+use Rattle.model.specs.Plans.{Change, duplicated, plan, status as told_status, absent, slot, free, free_from, first_of_free, is_pipe, is_special, opened, cut_to, read_some, write_some, offset_named, write_from, read_pipe, piped, pipes_in, whole_write, most_processes, place_to_write, length_named, aimed, spaced, swapped, sought, moved, replaced_by_name, room, most_moved, descriptor_limit, target_limit, open_limit}
 use Rattle.model.specs.Steps.{edits, edits_of, reply, reply_of}
 use Rattle.ids.specs.Flags.{is_reading, is_writing, is_creating, is_exclusive, is_truncating}
 use Rattle.model.proofs.Laws.{all_entries}
-use Rattle.call_laws.specs.WellFormed.{WellFormed}
+use Rattle.call_laws.specs.WellFormed.{WellFormed, most_descriptors}
 use Rattle.call_laws.proofs.Laws.{after_bind, allowed, either_given, weaken, whatever}
-use Rattle.shadow.specs.Steps.{CanEdit}
+use Rattle.notes.specs.Steps.{CanEdit}
 
 -- the edits of what a plan gives are those that are there
 abbrev Edits : Change → Type 0
@@ -59,7 +59,7 @@ found k f (e ∷ es) low = by_test (e.0 == f) refl (found k f es low.1)
 
 module _ (k : Kernel) (pid : ℕ) (well : WellFormed k) where
   opened_slot : (call : Call) (f : ℕ) → IfOk (given k (slot (own k pid call) f)) (λ it. f < descriptor_limit)
-  opened_slot call f = found k f (entries (process_of k pid).table) (all_entries nat_cmp_total (λ g d. g < descriptor_limit) (process_of k pid).table (λ g d is. well.low pid g d is))
+  opened_slot call f = found k f (entries (process_of k pid).table) (all_entries nat_cmp_total (λ g d. g < descriptor_limit) (process_of k pid).table (λ g d is. let low : g < most_descriptors k = well.low pid g d is in omega arith))
 
   -- of a call on an open descriptor
   on : (call : Call) (f : ℕ) (m : Slot → Plan Change) → ((it : Slot) → f < descriptor_limit → IfOk (given k (m it)) Edits) → IfOk (given k (slot (own k pid call) f >>= m)) Edits
@@ -77,6 +77,11 @@ all_free table f (suc more) = by_test (list_any (λ e. e.0 == f) table) (higher 
     by_test : (b : Bool) → AllByRecursion (λ g. g < f + suc more) (free_from table (suc f) more) → AllByRecursion (λ g. g < f + suc more) (if b then free_from table (suc f) more else f ∷ free_from table (suc f) more)
     by_test true rest = rest
     by_test false rest = (omega arith, rest)
+
+-- what is below a kernel's own number is below the greatest
+below_limit : (o : Own) (fs : List ℕ) → AllByRecursion (λ g. g < 0 + open_limit o) fs → AllByRecursion (λ g. g < descriptor_limit) fs
+below_limit o [] all = tt
+below_limit o (f ∷ fs) all = ((let low : f < 0 + open_limit o = all.0 in omega arith), below_limit o fs all.1)
 
 first_low : (k : Kernel) (fs : List ℕ) → AllByRecursion (λ g. g < descriptor_limit) fs → IfOk (given k (first_of_free fs)) (λ f. f < descriptor_limit)
 first_low k [] all = tt
@@ -135,6 +140,19 @@ write_edits k largest low it bytes = either_given k Edits (is_pipe it.kind) _ _ 
 put_edits : (k : Kernel) (largest : ℕ) → largest ≤ largest_file → (n offset : ℕ) (bytes : List ℕ) → IfOk (given k (write_from largest n offset bytes)) Edits
 put_edits k largest low n offset bytes = allowed k Edits (nat_le largest offset) EFBIG _ (λ below. inl (room_ends largest offset bytes low (not_above largest offset below)))
 
+space_edits : (k : Kernel) (n at count : ℕ) (space : Space) → at + count ≤ largest_file → IfOk (given k (spaced n at count space)) Edits
+space_edits k n at count Grow low = by_test (nat_lt (answer_to k (Rattle.model.specs.Plan.Measure n)) (at + count))
+  where
+    by_test : (b : Bool) → CanEdit (if b then Rattle.model.specs.Changes.Cut n (answer_to k (Rattle.model.specs.Plan.Measure n)) (at + count) ∷ [] else [])
+    by_test true = inl low
+    by_test false = tt
+space_edits k n at count Keep low = tt
+space_edits k n at count Punch low = by_test (nat_lt at (answer_to k (Rattle.model.specs.Plan.Measure n)))
+  where
+    by_test : (b : Bool) → CanEdit (if b then Rattle.model.specs.Changes.Wipe n at (min count (answer_to k (Rattle.model.specs.Plan.Measure n) - at)) ∷ [] else [])
+    by_test true = inl (omega arith)
+    by_test false = tt
+
 seek_edits : (k : Kernel) (largest : ℕ) (it : Slot) (place : ℤ) → IfOk (given k (sought largest it place)) Edits
 seek_edits k largest it (pos place) = unless k (nat_lt largest place) EINVAL _ (inr tt)
 seek_edits k largest it (negsuc place) = tt
@@ -150,50 +168,56 @@ pair_edits k o [] low = tt
 pair_edits k o (f ∷ []) low = tt
 pair_edits k o (f ∷ g ∷ fs) low = inl (refl, low.0, low.1.0)
 
-module _ (k : Kernel) (pid : ℕ) (well : WellFormed k) (low : k.largest ≤ largest_file) where
+module _ (k : Kernel) (pid : ℕ) (well : WellFormed k) (low : k.bounds.file_bytes ≤ largest_file) where
   planned : (call : Call) → is_inside call ≡ true → IfOk (given k (plan (own k pid call) call)) Edits
   planned (Open path flags) h =
       unless k (not (is_reading flags || is_writing flags)) EINVAL _ (unless k (is_exclusive flags && not (is_creating flags)) EINVAL _ (unless k (is_truncating flags && not (is_writing flags)) EINVAL _ (
-      after k (parsed path) _ (λ names. after_bind k Edits (first_of_free (free (own k pid (Open path flags)))) _ (weaken (given k (first_of_free (free (own k pid (Open path flags)))))
-      (first_low k (free (own k pid (Open path flags))) (all_free (own k pid (Open path flags)).table 0 descriptor_limit))
+      after k (parsed k.bounds.path_bytes path) _ (λ names. after_bind k Edits (first_of_free (free (own k pid (Open path flags)))) _ (weaken (given k (first_of_free (free (own k pid (Open path flags)))))
+      (first_low k (free (own k pid (Open path flags))) (below_limit (own k pid (Open path flags)) (free (own k pid (Open path flags))) (all_free (own k pid (Open path flags)).table 0 (open_limit (own k pid (Open path flags))))))
       (λ f low. after k (last_of k.root (if is_creating flags && is_exclusive flags then EEXIST else EISDIR) names) _ (λ at. open_edits k (own k pid (Open path flags)) flags f low at at.found)))))))
   planned (Close f) h = on k pid well (Close f) f _ (λ it opened. inr opened)
   planned (Read f count) h = on k pid well (Read f count) f _ (λ it opened. unless k (not it.reading) EBADF _ (either_given k Edits (count == 0) _ _ (λ _. tt) (λ _. read_edits k it count)))
   planned (Pread f count offset) h = on k pid well (Pread f count offset) f _ (λ it opened. unless k (not it.reading) EBADF _ (unless k (is_pipe it.kind) ESPIPE _ (after k (or_refuse EINVAL (offset_named offset)) _ (λ at. either_given k Edits (count == 0) _ _ (λ _. tt) (λ _. tt)))))
-  planned (Write f bytes) h = on k pid well (Write f bytes) f _ (λ it opened. unless k (not it.writing) EBADF _ (either_given k Edits (is_empty bytes) _ _ (λ _. tt) (λ _. write_edits k k.largest low it bytes)))
-  planned (Pwrite f bytes offset) h = on k pid well (Pwrite f bytes offset) f _ (λ it opened. unless k (not it.writing) EBADF _ (unless k (is_pipe it.kind) ESPIPE _ (after k (or_refuse EINVAL (offset_named offset)) _ (λ at. either_given k Edits (is_empty bytes) _ _ (λ _. tt) (λ _. put_edits k k.largest low it.inode at bytes)))))
-  planned (Lseek f move whence) h = on k pid well (Lseek f move whence) f _ (λ it opened. unless k (is_pipe it.kind) ESPIPE _ (after k (base it whence) _ (λ place. seek_edits k k.largest it (pos place +ℤ move))))
-  planned (Ftruncate f len) h = on k pid well (Ftruncate f len) f _ (λ it opened. unless k (not it.writing) EBADF _ (unless k (is_pipe it.kind) EINVAL _ (allowed k Edits (nat_lt k.largest len) EFBIG _ (λ fits. inl (let within : len ≤ k.largest = not_below k.largest len fits in omega arith)))))
-  planned (Truncate path len) h = after k (parsed path) _ (λ names. after k (walk (k.root, Some A_directory) names) _ (λ place. unless k (is_directory place) EISDIR _ (unless k (is_link place) ELOOP _ (unless k (is_special place) EINVAL _ (
-      allowed k Edits (nat_lt k.largest len) EFBIG _ (λ fits. inl (let within : len ≤ k.largest = not_below k.largest len fits in omega arith)))))))
+  planned (Write f bytes) h = on k pid well (Write f bytes) f _ (λ it opened. unless k (not it.writing) EBADF _ (either_given k Edits (is_empty bytes) _ _ (λ _. tt) (λ _. write_edits k k.bounds.file_bytes low it bytes)))
+  planned (Pwrite f bytes offset) h = on k pid well (Pwrite f bytes offset) f _ (λ it opened. unless k (not it.writing) EBADF _ (unless k (is_pipe it.kind) ESPIPE _ (after k (or_refuse EINVAL (offset_named offset)) _ (λ at. either_given k Edits (is_empty bytes) _ _ (λ _. tt) (λ _. put_edits k k.bounds.file_bytes low it.inode at bytes)))))
+  planned (Lseek f move whence) h = on k pid well (Lseek f move whence) f _ (λ it opened. unless k (is_pipe it.kind) ESPIPE _ (after k (aimed it move whence) _ (λ sum. seek_edits k k.bounds.file_bytes it sum)))
+  planned (Fallocate f offset len space) h = on k pid well (Fallocate f offset len space) f _ (λ it opened. after k (or_refuse EINVAL (offset_named offset)) _ (λ at. after k (or_refuse EINVAL (length_named len)) _ (λ count.
+      unless k (not it.writing) EBADF _ (unless k (is_pipe it.kind) ESPIPE _ (allowed k Edits (nat_lt k.bounds.file_bytes (at + count)) EFBIG _ (λ fits. space_edits k it.inode at count space (let within : at + count ≤ k.bounds.file_bytes = not_below k.bounds.file_bytes (at + count) fits in omega arith)))))))
+  planned (Ftruncate f len) h = on k pid well (Ftruncate f len) f _ (λ it opened. unless k (not it.writing) EBADF _ (unless k (is_pipe it.kind) EINVAL _ (allowed k Edits (nat_lt k.bounds.file_bytes len) EFBIG _ (λ fits. inl (let within : len ≤ k.bounds.file_bytes = not_below k.bounds.file_bytes len fits in omega arith)))))
+  planned (Truncate path len) h = after k (parsed k.bounds.path_bytes path) _ (λ names. after k (walk (k.root, Some A_directory) names) _ (λ place. unless k (is_directory place) EISDIR _ (unless k (is_link place) ELOOP _ (unless k (is_special place) EINVAL _ (
+      allowed k Edits (nat_lt k.bounds.file_bytes len) EFBIG _ (λ fits. inl (let within : len ≤ k.bounds.file_bytes = not_below k.bounds.file_bytes len fits in omega arith)))))))
   planned (Fstat f) h = on k pid well (Fstat f) f _ (λ it opened. tells k (it.inode, it.kind))
-  planned (Stat path) h = after k (parsed path) _ (λ names. after k (walk (k.root, Some A_directory) names) _ (λ place. unless k (is_link place) ELOOP _ (tells k place)))
+  planned (Stat path) h = after k (parsed k.bounds.path_bytes path) _ (λ names. after k (walk (k.root, Some A_directory) names) _ (λ place. unless k (is_link place) ELOOP _ (tells k place)))
   planned (Link old path) h =
-      after k (parsed old) _ (λ from. after k (parsed path) _ (λ to. after k (walk (k.root, Some A_directory) from) _ (λ what. unless k (is_directory what) EPERM _ (
+      after k (parsed k.bounds.path_bytes old) _ (λ from. after k (parsed k.bounds.path_bytes path) _ (λ to. after k (walk (k.root, Some A_directory) from) _ (λ what. unless k (is_directory what) EPERM _ (
       after k (last_of k.root EEXIST to) _ (λ at. after k (absent at.found) _ (λ _. inl tt))))))
   planned (Unlink path) h =
-      after k (parsed path) _ (λ names. after k (last_of k.root EPERM names) _ (λ at. after k (or_refuse ENOENT at.found) _ (λ what. unless k (is_directory what) EPERM _ (inl tt))))
+      after k (parsed k.bounds.path_bytes path) _ (λ names. after k (last_of k.root EPERM names) _ (λ at. after k (or_refuse ENOENT at.found) _ (λ what. unless k (is_directory what) EPERM _ (inl tt))))
   planned (Rename old path) h =
-      after k (parsed old) _ (λ from. after k (parsed path) _ (λ to. unless k (is_empty from || is_empty to) EBUSY _ (
+      after k (parsed k.bounds.path_bytes old) _ (λ from. after k (parsed k.bounds.path_bytes path) _ (λ to. unless k (is_empty from || is_empty to) EBUSY _ (
       after k (last_of k.root EBUSY from) _ (λ at. after k (or_refuse ENOENT at.found) _ (λ what. unless k (is_directory what && is_below from to) EINVAL _ (
       after k (last_of k.root EBUSY to) _ (λ onto. move_edits k at what onto onto.found)))))))
-  planned (Mkdir path) h = after k (parsed path) _ (λ names. after k (last_of k.root EEXIST names) _ (λ at. after k (absent at.found) _ (λ _. inl refl)))
+  planned (Exchange old path) h =
+      after k (parsed k.bounds.path_bytes old) _ (λ from. after k (parsed k.bounds.path_bytes path) _ (λ to. unless k (is_empty from || is_empty to) EBUSY _ (
+      after k (last_of k.root EBUSY from) _ (λ at. after k (last_of k.root EBUSY to) _ (λ onto. after k (or_refuse ENOENT at.found) _ (λ what. after k (or_refuse ENOENT onto.found) _ (λ other.
+      unless k (is_directory what && is_below from to) EINVAL _ (unless k (is_directory other && is_below to from) EINVAL _ (either_given k Edits (what.0 == other.0) _ _ (λ _. tt) (λ _. inl tt))))))))))
+  planned (Mkdir path) h = after k (parsed k.bounds.path_bytes path) _ (λ names. after k (last_of k.root EEXIST names) _ (λ at. after k (absent at.found) _ (λ _. inl refl)))
   planned (Rmdir path) h =
-      after k (parsed path) _ (λ names. after k (last_of k.root EBUSY names) _ (λ at. after k (or_refuse ENOENT at.found) _ (λ what. unless k (not (is_directory what)) ENOTDIR _ (unless k (not (is_empty (answer_to k (List_names what.0)))) ENOTEMPTY _ (inl tt)))))
-  planned (List_directory path) h = after k (parsed path) _ (λ names. after k (walk (k.root, Some A_directory) names) _ (λ place. unless k (is_link place) ELOOP _ (unless k (not (is_directory place)) ENOTDIR _ tt)))
+      after k (parsed k.bounds.path_bytes path) _ (λ names. after k (last_of k.root EBUSY names) _ (λ at. after k (or_refuse ENOENT at.found) _ (λ what. unless k (not (is_directory what)) ENOTDIR _ (unless k (not (is_empty (answer_to k (List_names what.0)))) ENOTEMPTY _ (inl tt)))))
+  planned (List_directory path) h = after k (parsed k.bounds.path_bytes path) _ (λ names. after k (walk (k.root, Some A_directory) names) _ (λ place. unless k (is_link place) ELOOP _ (unless k (not (is_directory place)) ENOTDIR _ tt)))
   planned (Symlink target path) h =
       unless k (is_empty target) ENOENT _ (unless k (nat_lt target_limit (length target)) ENAMETOOLONG _ (unless k (list_any (λ b. b == 0) target) EINVAL _ (
-      after k (parsed path) _ (λ names. after k (last_of k.root EEXIST names) _ (λ at. after k (absent at.found) _ (λ _. inl refl))))))
-  planned (Readlink path) h = after k (parsed path) _ (λ names. after k (walk (k.root, Some A_directory) names) _ (λ place. unless k (not (is_link place)) EINVAL _ tt))
-  planned (Lstat path) h = after k (parsed path) _ (λ names. after k (walk (k.root, Some A_directory) names) _ (tells k))
-  planned (Mknod path special) h = after k (parsed path) _ (λ names. after k (last_of k.root EEXIST names) _ (λ at. after k (absent at.found) _ (λ _. inl refl)))
-  planned (Chmod path permissions) h = after k (parsed path) _ (λ names. after k (walk (k.root, Some A_directory) names) _ (λ place. unless k (is_link place) ELOOP _ (inl tt)))
-  planned (Chown path owner) h = after k (parsed path) _ (λ names. after k (walk (k.root, Some A_directory) names) _ (λ place. inl tt))
+      after k (parsed k.bounds.path_bytes path) _ (λ names. after k (last_of k.root EEXIST names) _ (λ at. after k (absent at.found) _ (λ _. inl refl))))))
+  planned (Readlink path) h = after k (parsed k.bounds.path_bytes path) _ (λ names. after k (walk (k.root, Some A_directory) names) _ (λ place. unless k (not (is_link place)) EINVAL _ tt))
+  planned (Lstat path) h = after k (parsed k.bounds.path_bytes path) _ (λ names. after k (walk (k.root, Some A_directory) names) _ (tells k))
+  planned (Mknod path special) h = after k (parsed k.bounds.path_bytes path) _ (λ names. after k (last_of k.root EEXIST names) _ (λ at. after k (absent at.found) _ (λ _. inl refl)))
+  planned (Chmod path permissions) h = after k (parsed k.bounds.path_bytes path) _ (λ names. after k (walk (k.root, Some A_directory) names) _ (λ place. unless k (is_link place) ELOOP _ (inl tt)))
+  planned (Chown path owner) h = after k (parsed k.bounds.path_bytes path) _ (λ names. after k (walk (k.root, Some A_directory) names) _ (λ place. inl tt))
   planned (Fchmod f permissions) h = on k pid well (Fchmod f permissions) f _ (λ it opened. inl tt)
   planned (Fchown f owner) h = on k pid well (Fchown f owner) f _ (λ it opened. inl tt)
-  planned (Dup f) h = on k pid well (Dup f) f _ (λ it opened. shared_edits k (own k pid (Dup f)) it (free (own k pid (Dup f))) (all_free (own k pid (Dup f)).table 0 descriptor_limit))
-  planned (Dup2 f g) h = on k pid well (Dup2 f g) f _ (λ it opened. allowed k Edits (nat_lt 63 g) EBADF _ (λ low. either_given k Edits (f == g) _ _ (λ _. tt) (λ _. inr (let few : g ≤ 63 = not_below 63 g low in omega arith))))
-  planned Open_pipe h = pair_edits k (own k pid Open_pipe) (free (own k pid Open_pipe)) (all_free (own k pid Open_pipe).table 0 descriptor_limit)
+  planned (Dup f) h = on k pid well (Dup f) f _ (λ it opened. shared_edits k (own k pid (Dup f)) it (free (own k pid (Dup f))) (below_limit (own k pid (Dup f)) (free (own k pid (Dup f))) (all_free (own k pid (Dup f)).table 0 (open_limit (own k pid (Dup f))))))
+  planned (Dup2 f g) h = on k pid well (Dup2 f g) f _ (λ it opened. allowed k Edits (nat_le (open_limit (own k pid (Dup2 f g))) g) EBADF _ (λ low. either_given k Edits (f == g) _ _ (λ _. tt) (λ _. inr (let few : g < open_limit (own k pid (Dup2 f g)) = not_above (open_limit (own k pid (Dup2 f g))) g low in omega arith))))
+  planned Open_pipe h = pair_edits k (own k pid Open_pipe) (free (own k pid Open_pipe)) (below_limit (own k pid Open_pipe) (free (own k pid Open_pipe)) (all_free (own k pid Open_pipe).table 0 (open_limit (own k pid Open_pipe))))
   planned call h = absurd (false≢true h)
 
   pub calls_edit : (call : Call) → is_inside call ≡ true → CanEdit (edits k pid call)
@@ -217,7 +241,7 @@ fork_comes k pid = by (nat_le most_processes k.made) refl
     by false few = inr (not_above most_processes k.made few, refl, pipes_in (own k pid Fork), refl)
 
 -- what a process edits that is in no transaction can be done
-pub calls_change : (k : Kernel) (pid : ℕ) → WellFormed k → k.largest ≤ largest_file → (call : Call) → CanChange k pid None (edits k pid call)
+pub calls_change : (k : Kernel) (pid : ℕ) → WellFormed k → k.bounds.file_bytes ≤ largest_file → (call : Call) → CanChange k pid None (edits k pid call)
 calls_change k pid well low Fork = elim (fork_comes k pid) [
   | inl refused ↦ inl (subst CanEdit (sym refused.1) tt)
   | inr made ↦ inr (inl (made.0, made.2, made.3))

@@ -12,9 +12,9 @@ use Rattle.kernel.proofs.Words.{subst₂, count_by, distinct, held_by, Process, 
 use Rattle.commit.specs.Views.{SameViews, live_slot, doomed_slot, View, view_at, Shows, changes_in, is_live_slot, is_within, gone_slot, Shown as Transactions}
 use Rattle.history_laws.proofs.Laws.{after_one_more, forks_and_exits_move, legal_push, legality_follows, lists_stay, phases_move, places_suffice}
 use Rattle.history_laws.proofs.Laws.{right_entries_have_places, status_alive, what_stands, right_by, free_from, phase_is, alive_is, lists_are_their_effects}
-use Rattle.history_laws.proofs.Laws.{views_may_be_loose, largest_is_given}
-use Rattle.call_laws.proofs.Laws.{the_largest_file_stays}
-use Rattle.model.specs.Limits.{largest_file}
+use Rattle.history_laws.proofs.Laws.{views_may_be_loose, bounds_are_given}
+use Rattle.call_laws.proofs.Laws.{the_bounds_stay}
+use Rattle.model.specs.Limits.{largest_file, Bounds}
 use Rattle.freeing_laws.specs.Sweep.{AllFit}
 use Rattle.shadow.proofs.Laws.{calls_can_be_committed_lem}
 use Rattle.history.specs.Log.{Log, all_forgotten, kept}
@@ -413,11 +413,11 @@ module _ (f : Fields) (holds : IsConsistent f) (q : ℕ) where
   slot_sees = ap tidy slot_views ∙ sym (views_may_be_loose 0 (setup_of f.log) (limit_of f.log) f.log.entries holds.legal q).seen
 
   -- in what it sees, tidied or not, a file may have as many bytes as the log says
-  pub seen_low : (seen_by (moment f.log) q).largest ≤ largest_file
-  seen_low = subst (λ n. n ≤ largest_file) (sym ((largest_is_given 0 (setup_of f.log) f.log.entries).seen q)) holds.low
+  pub seen_low : (seen_by (moment f.log) q).bounds.file_bytes ≤ largest_file
+  seen_low = subst (λ (b : Bounds). b.file_bytes ≤ largest_file) (sym ((bounds_are_given 0 (setup_of f.log) f.log.entries).seen q)) holds.low
 
-  pub slot_low : (all_done (changes_in (view_at f.slots q)) f.stable.state).largest ≤ largest_file
-  slot_low = subst (λ n. n ≤ largest_file) (sym (ap (λ k. k.largest) slot_sees) ∙ the_largest_file_stays.tidied (all_done (changes_in (view_at f.slots q)) f.stable.state)) seen_low
+  pub slot_low : (all_done (changes_in (view_at f.slots q)) f.stable.state).bounds.file_bytes ≤ largest_file
+  slot_low = subst (λ (b : Bounds). b.file_bytes ≤ largest_file) (sym (ap (λ k. k.bounds) slot_sees) ∙ the_bounds_stay.tidied (all_done (changes_in (view_at f.slots q)) f.stable.state)) seen_low
 
   pub slot_lives : is_live_slot (view_at f.slots q) ≡ is_live (moment f.log) q
   slot_lives = ap (λ p. is_live_slot p.slot) (holds.parts q) ∙ live_shown (is_alive (moment f.log).committed q) ((moment f.log).phase q) (changes_of (moment f.log) q) dead_is_idle

@@ -17,13 +17,16 @@ use Rattle.pipe_shadow.specs.contracts.PipeShadow as PipeShadow
 use Rattle.circular_buffer.proofs.Crosses.{Cells-send, Deed-send}
 use Rattle.fdtable.specs.contracts.FdTable as FdTable
 use Rattle.fdtable.specs.contracts.SlotPatch as SlotPatch
-use Rattle.shadow.specs.contracts.change.Contents as Contents
-use Rattle.shadow.specs.contracts.change.InodeChange as InodeChange
-use Rattle.shadow.specs.contracts.inodes.Inodes as Inodes
-use Rattle.shadow.specs.contracts.new_rights.NewRights as NewRights
-use Rattle.shadow.specs.contracts.opening.Openings as Openings
-use Rattle.shadow.specs.contracts.slots.Slots as Slots
-use Rattle.shadow.specs.contracts.patches.Patches as Patches
+use Rattle.fdtable.specs.contracts.page.Page as Page
+use Rattle.fdtable.specs.contracts.pages.Pages as Pages
+use Rattle.fdtable.specs.contracts.room.SlotRoom as SlotRoom
+use Rattle.notes.specs.contracts.change.Contents as Contents
+use Rattle.notes.specs.contracts.change.InodeChange as InodeChange
+use Rattle.notes.specs.contracts.inodes.Inodes as Inodes
+use Rattle.notes.specs.contracts.new_rights.NewRights as NewRights
+use Rattle.notes.specs.contracts.opening.Openings as Openings
+use Rattle.notes.specs.contracts.slots.Slots as Slots
+use Rattle.notes.specs.contracts.patches.Patches as Patches
 use Rattle.shadow.specs.contracts.shadow.Shadow as Shadow
 use Rattle.store.specs.contracts.Header as Header
 use Rattle.store.specs.contracts.Object as Object
@@ -43,6 +46,7 @@ use Rattle.ids.specs.contracts.bytes.Bytes as Bytes
 use Rattle.ids.specs.contracts.bytes.Name as Name
 use Rattle.ids.specs.contracts.bytes.NameList as NameList
 use Rattle.ids.specs.contracts.fixed.Fixed as Fixed
+use Rattle.ids.specs.contracts.target.Target as Target
 use Rattle.ids.specs.contracts.reply.Answer as Answer
 use Rattle.ids.specs.contracts.reply.Reply as Reply
 use Rattle.ids.specs.contracts.entry.Entry as Entry
@@ -66,14 +70,17 @@ frees_by : {D : Type 0} {G : Type 1} (g : G) (holds : D → Ty → Ptr → Fml)
     → ((a : D) (τ : Ty) (p : Ptr) → Keyless (holds a τ p)) → Frees g holds
 frees_by g holds h = record { frees = h }
 
-patch_sent : IsSend NamePatch.the_row
-patch_sent = search (sendable, crosses, over.crosses, maps.crosses, frees_by, frees.frees) depth 40 fits 30000
-
-bytes_sent : IsSend FileShadow.the_row
-bytes_sent = search (sendable, crosses, over.crosses, frees_by, frees.frees) depth 40 fits 30000
-
 room_sent : IsSend FileData.the_row
 room_sent = search (sendable, crosses, over.crosses, frees_by, frees.frees) depth 40 fits 30000
+
+name_sent : IsSend Name.the_row
+name_sent = search (sendable, crosses, over.crosses, frees_by, frees.frees) depth 40 fits 30000
+
+patch_sent : IsSend NamePatch.the_row
+patch_sent = search (name_sent, sendable, crosses, over.crosses, maps.crosses, frees_by, frees.frees) depth 40 fits 30000
+
+bytes_sent : IsSend FileShadow.the_row
+bytes_sent = search (room_sent, sendable, crosses, over.crosses, frees_by, frees.frees) depth 40 fits 30000
 
 waiting_sent : IsSend PipeData.the_row
 waiting_sent = search (Cells-send, Deed-send, sendable, crosses, over.crosses, frees_by, frees.frees) depth 40 fits 30000
@@ -84,17 +91,29 @@ appended_sent = search (sendable, crosses, over.crosses, frees_by, frees.frees) 
 open_pipe_sent : IsSend (OpenPipe.the_field).row
 open_pipe_sent = search (waiting_sent, sendable, crosses, over.crosses) depth 40 fits 30000
 
+page_sent : IsSend Page.the_row
+page_sent = search (sendable, crosses, over.crosses, frees_by, frees.frees) depth 40 fits 30000
+
+pages_sent : IsSend Pages.the_row
+pages_sent = search (page_sent, sendable, crosses, over.crosses, frees_by, frees.frees) depth 40 fits 30000
+
 table_sent : IsSend FdTable.the_row
-table_sent = search (sendable, crosses, over.crosses) depth 40 fits 30000
+table_sent = search (pages_sent, sendable, crosses, over.crosses) depth 40 fits 30000
 
 given_sent : IsSend SlotPatch.the_row
-given_sent = search (sendable, crosses, over.crosses) depth 40 fits 30000
+given_sent = search (pages_sent, sendable, crosses, over.crosses, frees_by, frees.frees) depth 40 fits 30000
+
+places_sent : IsSend SlotRoom.the_row
+places_sent = search (pages_sent, sendable, crosses, over.crosses) depth 40 fits 30000
 
 text_sent : IsSend Bytes.the_row
 text_sent = search (sendable, crosses, over.crosses, frees_by, frees.frees) depth 40 fits 30000
 
+target_sent : IsSend Target.the_row
+target_sent = search (text_sent, sendable, crosses, over.crosses, frees_by, frees.frees) depth 40 fits 30000
+
 fixed_sent : IsSend (Fixed.the_field).row
-fixed_sent = search (text_sent, sendable, crosses, over.crosses, frees_by, frees.frees) depth 40 fits 30000
+fixed_sent = search (target_sent, sendable, crosses, over.crosses, frees_by, frees.frees) depth 40 fits 30000
 
 contents_sent : IsSend (Contents.the_field).row
 contents_sent = search (patch_sent, bytes_sent, open_pipe_sent, appended_sent, fixed_sent, sendable, crosses, over.crosses) depth 40 fits 30000
@@ -112,7 +131,7 @@ openings_sent : IsSend Openings.the_row
 openings_sent = search (sendable, crosses, over.crosses, maps.crosses, frees_by, frees.frees) depth 40 fits 30000
 
 slots_sent : IsSend Slots.the_row
-slots_sent = search (given_sent, sendable, crosses, over.crosses, frees_by, frees.frees) depth 40 fits 30000
+slots_sent = search (given_sent, places_sent, sendable, crosses, over.crosses, frees_by, frees.frees) depth 40 fits 30000
 
 patches_sent : IsSend Patches.the_row
 patches_sent = search (inodes_sent, rights_sent, openings_sent, slots_sent, sendable, crosses, over.crosses, frees_by, frees.frees) depth 40 fits 30000
@@ -121,7 +140,7 @@ shadow_sent : IsSend Shadow.the_row
 shadow_sent = search (patches_sent, sendable, crosses, over.crosses) depth 40 fits 30000
 
 dir_sent : IsSend Dir.the_row
-dir_sent = search (sendable, crosses, over.crosses, maps.crosses, frees_by, frees.frees) depth 40 fits 30000
+dir_sent = search (name_sent, sendable, crosses, over.crosses, maps.crosses, frees_by, frees.frees) depth 40 fits 30000
 
 open_file_sent : IsSend (OpenFile.the_field).row
 open_file_sent = search (room_sent, sendable, crosses, over.crosses) depth 40 fits 30000
@@ -191,9 +210,6 @@ call_sent = search (text_sent, sendable, crosses, over.crosses, frees_by, frees.
 
 op_sent : IsSend (Op.the_field).row
 op_sent = search (call_sent, sendable, crosses, over.crosses, frees_by, frees.frees) depth 40 fits 30000
-
-name_sent : IsSend Name.the_row
-name_sent = search (sendable, crosses, over.crosses, frees_by, frees.frees) depth 40 fits 30000
 
 names_sent : IsSend NameList.the_row
 names_sent = search (name_sent, sendable, crosses, over.crosses, frees_by, frees.frees) depth 40 fits 30000

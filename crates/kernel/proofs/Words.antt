@@ -36,8 +36,8 @@ pub use Rattle.contention.proofs.Laws.{grown_touches, take-held, with_touches-ap
 pub use Rattle.contention.specs.Contenders.{SetsContender, Contender, contender_at, contender_of, live_age, nobody}
 pub use Rattle.contention.specs.Verdicts.{IsDoomedBy, IsVerdict}
 pub use Rattle.contention.specs.declared.Doomed.{Doomed}
-pub use Rattle.shadow.specs.Log.{effect}
-pub use Rattle.shadow.specs.Steps.{CanEdit}
+pub use Rattle.notes.specs.Log.{effect}
+pub use Rattle.notes.specs.Steps.{CanEdit}
 pub use Rattle.shadow.specs.Committed.{Committed}
 pub use Rattle.machine.specs.Shown.{Kept, Shown, is_live, is_live_status, limit_of, moment, setup_of}
 pub use Rattle.kernel.specs.States.{Asks, CanEnter, CanEndTransaction, Does, Dooms, Fields, IsConsistent, IsIn, Moves, Part, Plans, Prepares, Stands, Unchanged, calling}

@@ -27,7 +27,7 @@ use Rattle.model.specs.Changes.{Edit, New_process, End_process, applied, process
 use Rattle.model.specs.Changes.{tidy}
 use Rattle.model.specs.Calls.{Call}
 use Rattle.model.specs.Steps.{Touch, edits}
-use Rattle.shadow.specs.Steps.{CanEdit}
+use Rattle.notes.specs.Steps.{CanEdit}
 use Rattle.shadow.specs.Claims.{HaveParents}
 use Rattle.commit.specs.Edits.{with_change}
 
@@ -83,7 +83,7 @@ pub record IsConsistent (f : Fields) : Type 0 where
   pub held_count : length f.held ≡ bound (moment f.log)
   pub parts : (q : ℕ) → part_at f q ≡ part_of (moment f.log) q
   pub few : length f.log.priorities ≤ most_processes
-  pub low : f.log.largest ≤ LARGEST_FILE
+  pub low : f.log.bounds.file_bytes ≤ LARGEST_FILE
   pub forgot : sum f.log.forgotten ≤ length f.log.entries
 
 -- such a process has a slot, and its part of the touches

@@ -31,6 +31,10 @@ impl Machine for Kernel {
         Kernel::made(self)
     }
 
+    fn objects(&self) -> usize {
+        Kernel::objects(self)
+    }
+
     fn is_living(&self, pid: Pid) -> bool {
         Kernel::is_living(self, pid)
     }

@@ -13,7 +13,7 @@ ghost use Rattle.model.specs.Steps as steps;
 ghost use Rattle.model.specs.Steps.{reply};
 ghost use Rattle.contention.specs.Verdicts.{IsAlone, IsVerdict};
 ghost use Rattle.shadow.specs.Claims.{HaveParents};
-ghost use Rattle.shadow.specs.Log.{effect};
+ghost use Rattle.notes.specs.Log.{effect};
 ghost use Rattle.call_laws.specs.Fits.{Fits};
 ghost use Rattle.commit.specs.Edits.{AreNew};
 ghost use Rattle.commit.specs.Views.{idle_slot, view_at};

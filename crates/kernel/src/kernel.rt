@@ -2,7 +2,8 @@
 //
 // For the proof: what a refused call holds goes by `drop`, which is one call. Where a `?` lets a value
 // go, the proof opens it field by field.
-ghost use Rattle.ids.specs.declared.limits.TheConstants.{DEFAULT_LARGEST_FILE, LARGEST_FILE};
+ghost use Rattle.ids.specs.Bounds.{bounds_of, given_by_default};
+ghost use Rattle.ids.specs.declared.limits.TheConstants.{LARGEST_FILE};
 ghost use Rattle.ids.specs.declared.limits.TheConstants.{MAX_ENTRIES, MAX_PROCESSES};
 ghost use Rattle.std.specs.Prelude.{◌≡◌, ◌^◌, ◌↔◌, ℕ, ◌<◌, ◌≤◌, [], length, true, false, is_some, IfOk, IfSome, OnErr};
 ghost use Rattle.model.specs.Changes.{tidy};
@@ -52,8 +53,8 @@ impl Model for Kernel {
 }
 
 impl Kernel {
-    /// A kernel with a process for each of these priorities, no names, files of at most
-    /// [`ids::DEFAULT_LARGEST_FILE`] bytes, and a history that keeps at most `limit` entries, whose
+    /// A kernel with a process for each of these priorities, no names, the bounds where none are given
+    /// ([`ids::Bounds::given_by_default`]), and a history that keeps at most `limit` entries, whose
     /// memory it takes at once. Refused memory gives nothing.
     pub fn new(heap: Heap, priorities: &[Priority], limit: usize) -> Result<Kernel, AllocError>
         requires some { 0 < length priorities.now }
@@ -66,14 +67,15 @@ impl Kernel {
               priorities = priorities.now;
               limit = limit;
               forgotten = [];
-              largest = DEFAULT_LARGEST_FILE;
+              bounds = given_by_default;
             }) }
     {
         Kernel::with_limits(heap, priorities, Limits::of_entries(limit))
     }
 
-    /// The same with these limits: files of at most `limits.file_bytes` bytes, and a history that
-    /// keeps at most `limits.entries` entries. Refused memory gives nothing.
+    /// The same with these limits: files of at most `limits.file_bytes` bytes, `limits.descriptors`
+    /// descriptors in a process, paths of at most `limits.path_bytes` bytes, and a history that keeps at
+    /// most `limits.entries` entries. Refused memory gives nothing.
     pub fn with_limits(
         heap: Heap,
         priorities: &[Priority],
@@ -90,7 +92,7 @@ impl Kernel {
               priorities = priorities.now;
               limit = limits.entries;
               forgotten = [];
-              largest = limits.file_bytes;
+              bounds = bounds_of limits;
             }) }
     {
         let history = History::with_limits(heap, priorities, limits)?;
@@ -98,7 +100,7 @@ impl Kernel {
             drop(history);
             return Err(AllocError);
         };
-        let Ok(transactions) = Transactions::new(heap, priorities, limits.file_bytes) else {
+        let Ok(transactions) = Transactions::new(heap, priorities, limits.bounds()) else {
             drop(contenders);
             drop(history);
             return Err(AllocError);
@@ -129,6 +131,12 @@ impl Kernel {
         ensures { result ≡ self.now.state.made }
     {
         self.state.transactions.stable().made()
+    }
+
+    /// How many objects there are, inodes and open descriptions, with those that transactions make.
+    /// Contracts do not know it.
+    pub fn objects(&self) -> usize {
+        self.state.transactions.stable().objects()
     }
 
     /// Whether there is such a process: it was made and has not ended.

@@ -1,1 +1,2 @@
 mod Root
+mod Rooms

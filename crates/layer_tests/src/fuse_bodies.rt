@@ -2,9 +2,9 @@
 use fuse::{Bytes, Changes, Forgets, Operation, Time, TimeChange, Whence};
 
 // The opcodes that are served.
-pub(crate) const OPCODES: [u8; 30] = [
+pub(crate) const OPCODES: [u8; 32] = [
     1, 2, 3, 4, 5, 6, 8, 9, 10, 11, 12, 13, 14, 15, 16, 17, 18, 20, 25, 26, 27, 28, 29, 34, 35, 36,
-    38, 42, 45, 46,
+    38, 42, 43, 45, 46, 47,
 ];
 
 // A body of this opcode.
@@ -38,8 +38,11 @@ pub(crate) fn body_of(opcode: u8) -> &'static [u8] {
         35 => b"\x42\0\0\0\xa4\x81\0\0\x12\0\0\0\x01\0\0\0name\0",
         42 => b"\x02\0\0\0\0\0\0\0\x05\0\0\0\0\0\0\0\x01\0\0\0\0\0\0\0\
             \x06\0\0\0\0\0\0\0\x02\0\0\0\0\0\0\x01",
+        43 => b"\x07\0\0\0\0\0\0\x01\0\x10\0\0\x01\0\0\0\x03\0\0\0\0\0\0\x01\x03\0\0\0\0\0\0\0",
         45 => b"\x06\0\0\0\0\0\0\x01\x02\0\0\0\0\0\0\0name\0other\0",
         46 => b"\x07\0\0\0\0\0\0\x01\0\x10\0\0\x01\0\0\0\x03\0\0\0\0\0\0\0",
+        47 => b"\x07\0\0\0\0\0\0\x01\0\x10\0\0\x01\0\0\0\x06\0\0\0\0\0\0\x01\
+            \x03\0\0\0\0\0\0\x01\x08\0\0\0\0\0\0\0\x04\0\0\0\x01\0\0\0\x02\0\0\0\0\0\0\0",
         _ => b"",
     }
 }
@@ -131,6 +134,43 @@ fn is_of_file(operation: &Operation, opcode: u8) -> bool {
                 && *handle == SEVEN
                 && *offset == 0x1_0000_1000
                 && matches!(whence, Whence::NextData)
+        }
+        _ => is_of_range(operation, opcode),
+    }
+}
+
+// The same for ranges of open files.
+fn is_of_range(operation: &Operation, opcode: u8) -> bool {
+    match operation {
+        Operation::Fallocate {
+            handle,
+            offset,
+            length,
+            mode,
+        } => {
+            opcode == 43
+                && *handle == SEVEN
+                && *offset == 0x1_0000_1000
+                && *length == THREE
+                && *mode == 3
+        }
+        Operation::CopyFileRange {
+            handle,
+            offset,
+            to_node,
+            to_handle,
+            to_offset,
+            length,
+            flags,
+        } => {
+            opcode == 47
+                && *handle == SEVEN
+                && *offset == 0x1_0000_1000
+                && *to_node == SIX
+                && *to_handle == THREE
+                && *to_offset == 8
+                && *length == 0x1_0000_0004
+                && *flags == 2
         }
         _ => false,
     }

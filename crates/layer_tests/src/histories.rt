@@ -120,8 +120,8 @@ pub(crate) fn limited(rt: &impl Abort, heap: Heap, file_bytes: u32) -> History
 {
     let zero = Priority::new(0).unwrap();
     let limits = Limits {
-        entries: 16,
         file_bytes,
+        ..Limits::of_entries(16)
     };
     History::with_limits(heap, &[zero, zero], limits).expect(rt, "memory")
 }

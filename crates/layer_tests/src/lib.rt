@@ -20,6 +20,8 @@ mod of_contention;
 #[cfg(test)]
 mod of_dirlist;
 #[cfg(test)]
+mod of_fdtable;
+#[cfg(test)]
 mod of_file_shadow;
 #[cfg(test)]
 mod of_fuse;

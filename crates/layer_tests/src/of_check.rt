@@ -213,8 +213,8 @@ fn checked_in_parts(
     first: &[Entry],
     second: &[Entry],
 ) -> Result<(), CheckFault> {
-    let largest = history.largest_file();
-    let Ok(checker) = Checker::with_largest_file(heap, Num(0), history.priorities(), largest) else {
+    let bounds = history.bounds();
+    let Ok(checker) = Checker::with_bounds(heap, Num(0), history.priorities(), bounds) else {
         return Err(CheckFault::NoMemory);
     };
     let checker = checker.add(first)?;

@@ -49,31 +49,32 @@ fn length_of_chain(rt: &impl Abort, heap: Heap, count: u32, name: &[u8]) -> Opti
 }
 
 #[test]
-fn a_path_has_at_most_1024_bytes(rt: HostRuntime) {
+fn a_path_has_at_most_4096_bytes(rt: HostRuntime) {
     let heap = heap::open(rt.alloc()).expect(&rt, "memory");
-    assert_eq!(rt; length_of_chain(&rt, heap, 4, &[b'a'; 255]), Some(1024));
-    assert_eq!(rt; length_of_chain(&rt, heap, 5, &[b'a'; 204]), None);
-    assert_eq!(rt; length_of_chain(&rt, heap, 25, &[b'a'; 40]), None);
-    assert_eq!(rt; length_of_chain(&rt, heap, 8, &[b'a'; 127]), Some(1024));
+    assert_eq!(rt; length_of_chain(&rt, heap, 16, &[b'a'; 255]), Some(4096));
+    assert_eq!(rt; length_of_chain(&rt, heap, 17, &[b'a'; 240]), None);
+    assert_eq!(rt; length_of_chain(&rt, heap, 65, &[b'a'; 62]), Some(4095));
+    assert_eq!(rt; length_of_chain(&rt, heap, 100, &[b'a'; 40]), None);
+    assert_eq!(rt; length_of_chain(&rt, heap, 32, &[b'a'; 127]), Some(4096));
 }
 
 #[test]
-fn a_path_has_at_most_512_names(rt: HostRuntime) {
+fn a_path_has_at_most_2048_names(rt: HostRuntime) {
     let heap = heap::open(rt.alloc()).expect(&rt, "memory");
-    assert_eq!(rt; NAMES_LIMIT, 513);
-    assert_eq!(rt; length_of_chain(&rt, heap, 511, b"a"), Some(1022));
-    assert_eq!(rt; length_of_chain(&rt, heap, 512, b"a"), Some(1024));
-    assert_eq!(rt; length_of_chain(&rt, heap, 513, b"a"), None);
+    assert_eq!(rt; NAMES_LIMIT, 2049);
+    assert_eq!(rt; length_of_chain(&rt, heap, 2047, b"a"), Some(4094));
+    assert_eq!(rt; length_of_chain(&rt, heap, 2048, b"a"), Some(4096));
+    assert_eq!(rt; length_of_chain(&rt, heap, 2049, b"a"), None);
     // No mount has empty names, which show this limit without the other.
-    assert_eq!(rt; length_of_chain(&rt, heap, 512, b""), Some(512));
-    assert_eq!(rt; length_of_chain(&rt, heap, 513, b""), None);
+    assert_eq!(rt; length_of_chain(&rt, heap, 2048, b""), Some(2048));
+    assert_eq!(rt; length_of_chain(&rt, heap, 2049, b""), None);
 }
 
 #[test]
 fn a_longest_path_ends_where_a_name_goes(rt: HostRuntime) {
     let heap = heap::open(rt.alloc()).expect(&rt, "memory");
     let mut nodes = Nodes::new(heap);
-    let last = chain(&rt, heap, &mut nodes, 512, b"a");
+    let last = chain(&rt, heap, &mut nodes, 2048, b"a");
     let number = 300;
     detach(&rt, heap, &mut nodes, 299, b"a");
     let below = [
@@ -83,7 +84,7 @@ fn a_longest_path_ends_where_a_name_goes(rt: HostRuntime) {
     ];
     let above = path_length(&rt, heap, &nodes, 299);
     drop(nodes);
-    assert_eq!(rt; last, 527);
+    assert_eq!(rt; last, 2063);
     assert_eq!(rt; below, [None; 3]);
     assert_eq!(rt; above, Some(568));
 }

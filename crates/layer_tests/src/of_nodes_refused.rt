@@ -219,14 +219,14 @@ fn length_but(heap: Heap, nodes: &Nodes, number: u64, request: u64) -> Option<us
 fn each_request_of_a_path_is_refused_once(rt: HostRuntime) {
     let heap = heap::open(rt.alloc()).expect(&rt, "memory");
     let mut nodes = Nodes::new(heap);
-    let last = chain(&rt, heap, &mut nodes, 512, b"a");
+    let last = chain(&rt, heap, &mut nodes, 2048, b"a");
     heap.refuse(0);
-    assert_eq!(rt; path_length(&rt, heap, &nodes, last), Some(1024));
+    assert_eq!(rt; path_length(&rt, heap, &nodes, last), Some(4096));
     let made = heap.made();
     for request in 1..20u64 {
-        let want = if request > made { Some(1024) } else { None };
+        let want = if request > made { Some(4096) } else { None };
         assert_eq!(rt; length_but(heap, &nodes, last, request), want);
-        assert_eq!(rt; path_length(&rt, heap, &nodes, last), Some(1024));
+        assert_eq!(rt; path_length(&rt, heap, &nodes, last), Some(4096));
     }
     drop(nodes);
     assert!(rt; made > 1 && made < 19, "{made} requests");

@@ -1,6 +1,6 @@
 // What a path asks of memory, and what it tells where that is refused.
 use heap::Heap;
-use ids::{Errno, Refusal};
+use ids::{DEFAULT_PATH_LIMIT, Errno, Refusal};
 use path::Path;
 use std::process::Abort;
 
@@ -8,7 +8,7 @@ use std::process::Abort;
 const LONG: &[u8] = b"/abcdefghijklmnopqrstuvwxyz/b/c/d/e";
 
 fn refusal(heap: Heap, bytes: &[u8]) -> Option<Refusal> {
-    Path::parse(heap, bytes).err()
+    Path::parse(heap, bytes, DEFAULT_PATH_LIMIT).err()
 }
 
 // How many requests the long path makes: each is refused once.

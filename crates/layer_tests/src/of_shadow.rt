@@ -4,7 +4,7 @@ ghost use Rattle.model.specs.State.{A_directory, Kernel, kind_of};
 
 use crate::refused::is_refused;
 use heap::Heap;
-use ids::{DEFAULT_LARGEST_FILE, Edit, Name, Num, Priority};
+use ids::{Bounds, Edit, Name, Num, Priority};
 use look::Look;
 use shadow::{Shadow, Stable, View};
 use std::alloc::AllocError;
@@ -15,7 +15,7 @@ fn first_stable(rt: &impl Abort, heap: Heap) -> Stable
     ensures { kind_of result.state result.state.root ≡ Some A_directory }
 {
     let priorities = [Priority::new(3).unwrap()];
-    Stable::new(heap, &priorities, DEFAULT_LARGEST_FILE).expect(rt, "memory")
+    Stable::new(heap, &priorities, Bounds::given_by_default()).expect(rt, "memory")
 }
 
 // A new directory in the root, in the shadow of a transaction. Its number is answered.

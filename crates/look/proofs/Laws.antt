@@ -6,12 +6,12 @@ use Rattle.std.specs.Cmp.{nat_cmp_total, tied_itself}
 use Rattle.std.specs.List.{list_any}
 use Rattle.std.specs.Map.{lookup}
 use Rattle.std.specs.FinMap.Entries.{find}
-use Rattle.std.proofs.lemmas.Bool.{cases_eq}
+use Rattle.std.proofs.lemmas.Bool.{cases_eq, cases_lt}
 use Rattle.model.specs.FiniteMap.{contains_key, get, entries, get-entries}
 use Rattle.model.specs.State.{Kernel, mapped}
 use Rattle.model.specs.Changes.{process_of}
 use Rattle.model.specs.Calls.{Slot, slot_of}
-use Rattle.model.specs.Plans.{slot_at, free_from}
+use Rattle.model.specs.Plans.{slot_at, free_from, open_limit}
 use Rattle.model.proofs.Laws.{apart}
 use Rattle.look.specs.Shown.{own_in, table_of, first_of, first_free}
 
@@ -61,24 +61,55 @@ rest_of_free table first more free =
     ap (λ b. if b then free_from table (suc first) more else first ∷ free_from table (suc first) more) free
     ∙ ap (λ n. first ∷ free_from table n more) (sym (add-one first))
 
-one_less : (first : ℕ) → first < 64 → 64 - first ≡ suc (64 - (first + 1))
-one_less first low = omega arith
+one_less : (limit first : ℕ) → first < limit → limit - first ≡ suc (limit - (first + 1))
+one_less limit first low = omega arith
+
+-- how many descriptors a process may have
+abbrev pub limit_of : Kernel → ℕ → ℕ
+limit_of k pid = open_limit (own_in k pid)
 
 -- the lowest free one from a descriptor on, where that is open, where it is free, and behind the last
-pub open_is_passed : (k : Kernel) (pid first : ℕ) → first < 64 → contains_key (process_of k pid).table first ≡ true → first_free k pid first ≡ first_free k pid (first + 1)
+pub open_is_passed : (k : Kernel) (pid first : ℕ) → first < limit_of k pid → contains_key (process_of k pid).table first ≡ true → first_free k pid first ≡ first_free k pid (first + 1)
 unfolding first_free
 open_is_passed k pid first low taken =
-    ap (λ n. first_of (free_from (table_of k pid) first n)) (one_less first low)
-    ∙ ap first_of (rest_of_open (table_of k pid) first (64 - (first + 1)) (listed_is k pid first ∙ taken))
+    ap (λ n. first_of (free_from (table_of k pid) first n)) (one_less (limit_of k pid) first low)
+    ∙ ap first_of (rest_of_open (table_of k pid) first (limit_of k pid - (first + 1)) (listed_is k pid first ∙ taken))
 
-pub free_is_first : (k : Kernel) (pid first : ℕ) → first < 64 → contains_key (process_of k pid).table first ≡ false → first_free k pid first ≡ Some first
+pub free_is_first : (k : Kernel) (pid first : ℕ) → first < limit_of k pid → contains_key (process_of k pid).table first ≡ false → first_free k pid first ≡ Some first
 unfolding first_free
 free_is_first k pid first low free =
-    ap (λ n. first_of (free_from (table_of k pid) first n)) (one_less first low)
-    ∙ ap first_of (rest_of_free (table_of k pid) first (64 - (first + 1)) (listed_is k pid first ∙ free))
+    ap (λ n. first_of (free_from (table_of k pid) first n)) (one_less (limit_of k pid) first low)
+    ∙ ap first_of (rest_of_free (table_of k pid) first (limit_of k pid - (first + 1)) (listed_is k pid first ∙ free))
 
-pub none_behind : (k : Kernel) (pid first : ℕ) → 64 ≤ first → first_free k pid first ≡ None
+pub none_behind : (k : Kernel) (pid first : ℕ) → limit_of k pid ≤ first → first_free k pid first ≡ None
 unfolding first_free
 none_behind k pid first past =
-    let none : 64 - first ≡ 0 = omega arith in
+    let none : limit_of k pid - first ≡ 0 = omega (arith, past) in
     ap (λ n. first_of (free_from (table_of k pid) first n)) none
+
+-- so many that are open are passed
+pub all_passed : (k : Kernel) (pid first count : ℕ) → first + count ≤ limit_of k pid → ((g : ℕ) → first ≤ g → g < first + count → contains_key (process_of k pid).table g ≡ true)
+    → first_free k pid first ≡ first_free k pid (first + count)
+all_passed k pid first ℕ.zero low taken = let same : first ≡ first + 0 = omega arith in ap (first_free k pid) same
+all_passed k pid first (suc count) low taken =
+    let next : first + 1 + count ≡ first + suc count = omega arith in
+    open_is_passed k pid first (omega (arith, low)) (taken first (omega arith) (omega arith))
+    ∙ all_passed k pid (first + 1) count (omega (arith, low)) (λ g from below. taken g (omega (arith, from)) (omega (arith, below)))
+    ∙ ap (first_free k pid) next
+
+-- the lowest free one, by the rule; and that there is none
+pub lowest_is_first : (k : Kernel) (pid first f : ℕ) → first ≤ f → f < limit_of k pid → contains_key (process_of k pid).table f ≡ false
+    → ((g : ℕ) → first ≤ g → g < f → contains_key (process_of k pid).table g ≡ true) → first_free k pid first ≡ Some f
+lowest_is_first k pid first f from low free taken =
+    let there : first + (f - first) ≡ f = omega (arith, from) in
+    all_passed k pid first (f - first) (omega (arith, from, low)) (λ g high below. taken g high (omega (arith, from, below)))
+    ∙ ap (first_free k pid) there ∙ free_is_first k pid f low free
+
+pub all_are_open : (k : Kernel) (pid first : ℕ) → ((g : ℕ) → first ≤ g → g < limit_of k pid → contains_key (process_of k pid).table g ≡ true) → first_free k pid first ≡ None
+all_are_open k pid first taken = elim (cases_lt first (limit_of k pid)) [
+  | inl low ↦ (
+      let there : first + (limit_of k pid - first) ≡ limit_of k pid = omega (arith, low) in
+      all_passed k pid first (limit_of k pid - first) (omega (arith, low)) (λ g high below. taken g high (omega (arith, low, below)))
+      ∙ ap (first_free k pid) there ∙ none_behind k pid (limit_of k pid) (omega arith))
+  | inr past ↦ none_behind k pid first past
+]

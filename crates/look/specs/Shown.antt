@@ -2,7 +2,7 @@
 use Rattle.std.specs.Prelude.{ℕ, ◌-◌, List, [], ◌∷◌, Option, Some, None}
 use Rattle.model.specs.State.{Kernel}
 use Rattle.model.specs.Calls.{Own, Slot, own, Exit}
-use Rattle.model.specs.Plans.{free_from, descriptor_limit}
+use Rattle.model.specs.Plans.{free_from, open_limit}
 
 -- in every call but fork
 abbrev pub own_in : Kernel → ℕ → Own
@@ -18,4 +18,5 @@ first_of [] = None
 first_of (f ∷ fs) = Some f
 
 unfoldable pub first_free : Kernel → ℕ → ℕ → Option ℕ
-first_free k pid first = first_of (free_from (table_of k pid) first (descriptor_limit - first))
+first_free k pid first =
+    first_of (free_from (table_of k pid) first (open_limit (own_in k pid) - first))

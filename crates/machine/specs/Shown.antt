@@ -18,7 +18,7 @@ limit_of log = record { capacity = log.limit; forgotten = log.forgotten }
 
 -- what the kernel was given when it was made
 abbrev pub setup_of : Log → Setup
-setup_of log = record { priorities = log.priorities; largest = log.largest }
+setup_of log = record { priorities = log.priorities; bounds = log.bounds }
 
 -- What the history comes to: the committed state, and each process's status. The root has number 0.
 abbrev pub moment : Log → Moment

@@ -1,5 +1,6 @@
 // What is asked of a kernel.
-ghost use Rattle.ids.specs.declared.limits.TheConstants.{DEFAULT_LARGEST_FILE, LARGEST_FILE};
+ghost use Rattle.ids.specs.Bounds.{bounds_of, given_by_default};
+ghost use Rattle.ids.specs.declared.limits.TheConstants.{LARGEST_FILE};
 ghost use Rattle.ids.specs.declared.limits.TheConstants.{MAX_ENTRIES, MAX_PROCESSES};
 ghost use Rattle.std.specs.Prelude.{◌≡◌, ◌^◌, ◌↔◌, ◌<◌, ◌≤◌, [], length, true, false, IfOk, OnErr};
 ghost use Rattle.model.specs.Moments.{is_alive};
@@ -17,8 +18,8 @@ pub trait Machine: Sized + Drop {
     /// What contracts see of it.
     ghost shown: { Self → Shown };
 
-    /// A kernel with a process for each of these priorities, no names, files of at most
-    /// [`ids::DEFAULT_LARGEST_FILE`] bytes, and a history that keeps at most `limit` entries, whose
+    /// A kernel with a process for each of these priorities, no names, the bounds where none are given
+    /// ([`ids::Bounds::given_by_default`]), and a history that keeps at most `limit` entries, whose
     /// memory it takes at once. Refused memory gives nothing.
     fn new(heap: Heap, priorities: &[Priority], limit: usize) -> Result<Self, AllocError>
         requires some { 0 < length priorities.now }
@@ -30,11 +31,12 @@ pub trait Machine: Sized + Drop {
           priorities = priorities.now;
           limit = limit;
           forgotten = [];
-          largest = DEFAULT_LARGEST_FILE;
+          bounds = given_by_default;
         }) };
 
-    /// The same with these limits: files of at most `limits.file_bytes` bytes, and a history that
-    /// keeps at most `limits.entries` entries. Refused memory gives nothing.
+    /// The same with these limits: files of at most `limits.file_bytes` bytes, `limits.descriptors`
+    /// descriptors in a process, paths of at most `limits.path_bytes` bytes, and a history that keeps at
+    /// most `limits.entries` entries. Refused memory gives nothing.
     fn with_limits(heap: Heap, priorities: &[Priority], limits: Limits) -> Result<Self, AllocError>
         requires some { 0 < length priorities.now }
         requires not_too_many { length priorities.now ≤ MAX_PROCESSES }
@@ -46,7 +48,7 @@ pub trait Machine: Sized + Drop {
           priorities = priorities.now;
           limit = limits.entries;
           forgotten = [];
-          largest = limits.file_bytes;
+          bounds = bounds_of limits;
         }) };
 
     /// The history: all entries ever made, of which those that were not forgotten are kept. It is
@@ -60,6 +62,10 @@ pub trait Machine: Sized + Drop {
     /// How many processes were ever made: their numbers are 1, 2, and so on.
     fn made(&self) -> usize
         ensures { result ≡ (shown self.now).state.made };
+
+    /// How many objects there are, inodes and open descriptions, with those that transactions make.
+    /// Contracts do not know it.
+    fn objects(&self) -> usize;
 
     /// Whether there is such a process: it was made and has not ended.
     fn is_living(&self, pid: Pid) -> bool

@@ -7,7 +7,7 @@ use Rattle.std.proofs.lemmas.List.Folds.{list_any-append}
 use Rattle.model.specs.State.{Kernel}
 use Rattle.model.specs.Aspects.{Aspect, Entry, Names, Size, Block, Links, Ends, Offset, Front, Back}
 use Rattle.model.specs.Aspects.{Target, Rights}
-use Rattle.model.specs.Changes.{Edit, Make_directory, Make_file, Make_fixed, Name_file, Unname_file, Unname_directory, Move, Put_bytes, Cut, Take, Append, Set_offset, Set_rights, Share_slot, Clear_slot, New_process, End_process, marks, file_replaced}
+use Rattle.model.specs.Changes.{Edit, Make_directory, Make_file, Make_fixed, Name_file, Unname_file, Unname_directory, Swap, Wipe, Move, Put_bytes, Cut, Take, Append, Set_offset, Set_rights, Share_slot, Clear_slot, New_process, End_process, marks, file_replaced}
 use Rattle.model.specs.Calls.{Call}
 use Rattle.model.specs.Entries.{Executed}
 use Rattle.model.specs.Steps.{Touch, reads, writes, edits, touches}
@@ -46,7 +46,9 @@ module _ (d : ℕ) where
   edit_same (Unname_file e x n) = (refl, (refl, tt))
   edit_same (Unname_directory e x n) = (refl, tt)
   edit_same (Move e x f y n replaced) = (refl, (refl, all_map Links (λ x. refl) (file_replaced replaced)))
+  edit_same (Swap e x n f y m) = (refl, (refl, tt))
   edit_same (Put_bytes n place bytes before) = append-all IsSame _ _ (optional (nat_lt before (place + length bytes)) n) (all_map (Block n) (λ x. refl) _)
+  edit_same (Wipe n place count) = all_map (Block n) (λ x. refl) _
   edit_same (Cut n before after) = append-all IsSame _ _ (unless (before == after) n) (all_map (Block n) (λ x. refl) _)
   edit_same (Take p count) = (refl, tt)
   edit_same (Append p bytes) = (refl, tt)

@@ -1,4 +1,5 @@
 mod Lists
+mod Passed
 mod Answers
 mod Law
 mod Sums

@@ -1,7 +1,10 @@
 mod Files
 mod Directories
 mod Pipes
+mod Exchanged
+mod Ranges
 mod Fixed
 mod Rights
+mod Bounds
 mod Touches
 mod Transactions

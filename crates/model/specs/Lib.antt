@@ -1,5 +1,6 @@
 pub mod FiniteMap
 pub mod Limits
+pub mod Holes
 pub mod State
 pub mod Aspects
 pub mod Plan

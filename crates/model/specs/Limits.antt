@@ -1,17 +1,24 @@
 -- The limits, each once. POSIX.1-2017 leaves the numbers to the implementation (limits.h).
 use Rattle.std.specs.Prelude.{ℕ}
+pub use Rattle.ids.specs.declared.limits.Bounds.{Bounds}
 
 -- the most processes that are ever made
 abbrev pub most_processes : ℕ
 most_processes = 4096
 
--- how many descriptors a process can have (OPEN_MAX)
+-- how many descriptors a process can have at all (OPEN_MAX); each kernel has a number of its own, and
+-- a greater one counts as this
 abbrev pub descriptor_limit : ℕ
-descriptor_limit = 64
+descriptor_limit = 1048576
 
--- the most bytes of a path (PATH_MAX), and of a name (NAME_MAX)
-abbrev pub path_limit : ℕ
-path_limit = 1024
+-- the number of a kernel for which none is given
+abbrev pub default_descriptors : ℕ
+default_descriptors = 64
+
+-- the most bytes of a path (PATH_MAX) of a kernel for which no number is given, and of a name
+-- (NAME_MAX)
+abbrev pub default_path_limit : ℕ
+default_path_limit = 1024
 
 abbrev pub name_limit : ℕ
 name_limit = 255
@@ -28,6 +35,14 @@ largest_file = 2147483647
 -- the number of a kernel for which none is given
 abbrev pub default_largest_file : ℕ
 default_largest_file = 1048576
+
+-- what nothing changes of a kernel for which no numbers are given
+abbrev pub default_bounds : Bounds
+default_bounds = record {
+  file_bytes = default_largest_file;
+  descriptors = default_descriptors;
+  path_bytes = default_path_limit;
+}
 
 -- the most bytes that one read or write of a file moves: POSIX.1-2017 lets each move fewer than were
 -- asked for (read, write)

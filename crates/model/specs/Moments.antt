@@ -5,7 +5,7 @@ use Rattle.std.specs.Prelude.{if◌then◌else◌, is_some, filter, length}
 use Rattle.std.specs.List.{list_any}
 use Rattle.model.specs.FiniteMap.{FinMap, get, empty, insert}
 use Rattle.std.specs.Ordering.{nat_cmp}
-use Rattle.model.specs.State.{Kernel, Process, Directory}
+use Rattle.model.specs.State.{Bounds, Kernel, Process, Directory}
 use Rattle.model.specs.Plan.{Errno}
 use Rattle.model.specs.Changes.{all_applied, tidy, process_of}
 use Rattle.model.specs.Calls.{Call, Answer}
@@ -46,11 +46,10 @@ with_processes made [] m = m
 with_processes made (p ∷ ps) m =
     with_processes (suc made) ps (insert m (suc made) (record { table = empty; priority = p }))
 
--- what a kernel is given when it is made: the priorities of its first processes, and the most bytes
--- of a file
+-- what a kernel is given when it is made: the priorities of its first processes, and its bounds
 pub record Setup : Type 0 where
   pub priorities : List ℕ
-  pub largest : ℕ
+  pub bounds : Bounds
 
 abbrev pub start : ℕ → Setup → Kernel
 start root setup = record {
@@ -60,7 +59,7 @@ start root setup = record {
   descriptions = empty;
   processes = with_processes 0 setup.priorities empty;
   made = length setup.priorities;
-  largest = setup.largest;
+  bounds = setup.bounds;
 }
 
 abbrev pub at_start : ℕ → Setup → Moment

@@ -4,7 +4,7 @@
 use Rattle.std.specs.Prelude.{ℕ, List, [], ◌∷◌, Bool, true, false, ◌&&◌, ◌||◌, ◌==◌, nat_lt}
 use Rattle.std.specs.Prelude.{if◌then◌else◌, length, Result, Ok, Err}
 use Rattle.std.specs.List.{list_any}
-use Rattle.model.specs.Limits.{name_limit, path_limit}
+use Rattle.model.specs.Limits.{name_limit}
 use Rattle.model.specs.State.{Name}
 use Rattle.model.specs.Plan.{Errno, EINVAL, ENAMETOOLONG}
 
@@ -54,10 +54,10 @@ abbrev pub absolute_names : List ℕ → Result (List Name) Errno
 absolute_names [] = Err EINVAL
 absolute_names (b ∷ bytes) = if b == 47 then names_behind bytes else Err EINVAL
 
--- the names of a path, or why it is none
-abbrev pub path_names : List ℕ → Result (List Name) Errno
-path_names bytes =
-    if nat_lt path_limit (length bytes) then Err ENAMETOOLONG else absolute_names bytes
+-- the names of a path of at most so many bytes, or why it is none
+abbrev pub path_names : ℕ → List ℕ → Result (List Name) Errno
+path_names most bytes =
+    if nat_lt most (length bytes) then Err ENAMETOOLONG else absolute_names bytes
 
 abbrev pub same_name : Name → Name → Bool
 same_name [] [] = true

@@ -5,6 +5,7 @@ use Rattle.std.specs.Prelude.{Option, Some, None, Result, Ok, Err, nat_lt, if◌
 use Rattle.std.specs.Prelude.{take, drop, min, ⊤}
 use Rattle.model.specs.FiniteMap.{keys}
 pub use Rattle.model.specs.Limits.{capacity, block_length}
+use Rattle.model.specs.Holes.{alike_from}
 pub use Rattle.ids.specs.declared.errno.Errno.{Errno}
 pub use Rattle.ids.specs.declared.errno.Errno.TheVariants.{EAGAIN, EBADF, EBUSY, EEXIST, EFBIG}
 pub use Rattle.ids.specs.declared.errno.Errno.TheVariants.{EINVAL, EISDIR, ELOOP, EMFILE}
@@ -28,6 +29,8 @@ pub data Question : Type 0 where
   Fit : ℕ → ℕ → Question  -- how many of so many bytes fit into a pipe
   Read_target : ℕ → Question  -- a symbolic link's target
   Find_rights : ℕ → Question  -- an inode's permissions and owner
+  Pass_blocks : Bool → ℕ → ℕ → ℕ → Question  -- how many blocks from one on, so many at most, are
+      -- holes of a file, or are none
 
 -- the type of a question's answer
 abbrev pub Shown : Question → Type 0
@@ -42,6 +45,7 @@ Shown (Read_pipe p count) = List ℕ
 Shown (Fit p count) = ℕ
 Shown (Read_target n) = List ℕ
 Shown (Find_rights n) = Rights_of_inode
+Shown (Pass_blocks holes n first count) = ℕ
 
 -- what the state answers
 abbrev pub answer : Kernel → (q : Question) → Shown q
@@ -56,6 +60,7 @@ answer k (Read_pipe p count) = take count (pipe_of k p)
 answer k (Fit p count) = min count (capacity - length (pipe_of k p))
 answer k (Read_target n) = target_of k n
 answer k (Find_rights n) = rights_of k n
+answer k (Pass_blocks holes n first count) = alike_from holes (file_of k n) first count
 
 -- first, first + 1, and so on
 abbrev pub rising : ℕ → ℕ → List ℕ
@@ -82,6 +87,9 @@ shown (Read_pipe p count) bytes =
 shown (Fit p count) fitting = Back p ∷ (if nat_lt fitting count then Front p ∷ [] else [])
 shown (Read_target n) target = Target n ∷ []
 shown (Find_rights n) rights = Rights n ∷ []
+-- those that were passed, and the one behind them
+shown (Pass_blocks holes n first count) passed =
+    map (Block n) (rising first (min count (suc passed)))
 
 -- a plan gives a value, refuses, or asks and goes on by the answer
 pub data Plan (A : Type 0) : Type 0 where

@@ -1,6 +1,6 @@
 -- The plan of each call: its tests in order, its answer, and its edits
 -- (POSIX.1-2017, the function of each name).
-use Rattle.std.specs.Prelude.{ℕ, suc, ◌+◌, ◌-◌, ℤ, pos, negsuc, ◌+ℤ◌, List, [], ◌∷◌, ◌++◌, Bool}
+use Rattle.std.specs.Prelude.{ℕ, suc, ◌+◌, ◌-◌, ◌/◌, ℤ, pos, negsuc, ◌+ℤ◌, List, [], ◌∷◌, ◌++◌, Bool}
 use Rattle.std.specs.Prelude.{true, false, not, ◌&&◌, ◌||◌, Option, Some, None, ◌==◌, nat_lt}
 use Rattle.std.specs.Prelude.{nat_le, if◌then◌else◌, length, take, min, ⊤}
 use Rattle.std.specs.List.{flat_map, list_any}
@@ -12,20 +12,23 @@ use Rattle.model.specs.State.{Link_to, Rights}
 use Rattle.model.specs.Plan.{EAGAIN, EBADF, EBUSY, EEXIST, EFBIG, EINVAL, EISDIR, ELOOP, EMFILE}
 use Rattle.model.specs.Plan.{ENAMETOOLONG, ENOENT, ENOTDIR, ENOTEMPTY, ENXIO, EPERM, EPIPE, ESPIPE}
 use Rattle.model.specs.Plan.{List_names, Measure, Read_file, Count_links, Count_ends, Find_offset}
-use Rattle.model.specs.Plan.{Read_pipe, Fit, Read_target, Find_rights, Plan, Give, Refuse, ◌>>=◌}
+use Rattle.model.specs.Plan.{Read_pipe, Fit, Read_target, Find_rights, Pass_blocks, block_length}
+use Rattle.model.specs.Plan.{Plan, Give, Refuse, ◌>>=◌}
 use Rattle.model.specs.Plan.{◌>>◌, ask, refuse_if, or_refuse}
+use Rattle.model.specs.Holes.{behind_blocks}
 use Rattle.model.specs.Paths.{is_empty, is_below}
 use Rattle.model.specs.Walks.{parsed, walk, last_of, Last, Place, is_directory, is_link}
 use Rattle.model.specs.Changes.{There, Made, Mode, Edit, Make_directory, Make_file, Make_fixed}
 use Rattle.model.specs.Changes.{Name_file, Unname_file, Unname_directory, Move, Put_bytes, Cut, Take, Append}
-use Rattle.model.specs.Changes.{Replaced, Over_nothing, Over_file, Over_directory}
+use Rattle.model.specs.Changes.{Replaced, Over_nothing, Over_file, Over_directory, Swap, Wipe}
 use Rattle.model.specs.Changes.{Set_offset, Set_rights, Open_inode, Make_pipe, Share_slot, Clear_slot}
 use Rattle.model.specs.Changes.{New_process, End_process}
 use Rattle.ids.specs.Fixed.{special_object}
 use Rattle.ids.specs.Rights.{permitted, owned}
 use Rattle.ids.specs.Flags.{is_reading, is_writing, is_creating, is_exclusive, is_truncating}
 use Rattle.ids.specs.Flags.{is_appending}
-use Rattle.model.specs.Calls.{OpenFlags, Whence, From_start, From_offset, From_end, Call, Open}
+use Rattle.model.specs.Calls.{OpenFlags, Whence, From_start, From_offset, From_end, To_data, To_hole}
+use Rattle.model.specs.Calls.{Space, Grow, Keep, Punch, Exchange, Fallocate, Call, Open}
 use Rattle.model.specs.Calls.{Close, Read, Pread, Write, Pwrite, Lseek, Ftruncate, Truncate, Stat}
 use Rattle.model.specs.Calls.{Fstat, Link, Unlink, Rename, Mkdir, Rmdir, List_directory, Symlink}
 use Rattle.model.specs.Calls.{Readlink, Lstat, Mknod, Chmod, Chown, Fchmod, Fchown, Dup, Dup2}
@@ -50,8 +53,13 @@ free_from table f (suc more) =
     if list_any (λ e. e.0 == f) table then free_from table (suc f) more
     else f ∷ free_from table (suc f) more
 
+-- how many descriptors its process may have: those that the kernel lets one have, and never more than
+-- one can have at all (OPEN_MAX)
+abbrev pub open_limit : Own → ℕ
+open_limit own = min own.bounds.descriptors descriptor_limit
+
 abbrev pub free : Own → List ℕ
-free own = free_from own.table 0 descriptor_limit
+free own = free_from own.table 0 (open_limit own)
 
 abbrev pub first_of_free : List ℕ → Plan ℕ
 first_of_free [] = Refuse EMFILE
@@ -213,10 +221,51 @@ sought largest it (pos place) = do
   changed (New_place place) (Set_offset it.description place ∷ [])
 sought largest it (negsuc place) = Refuse EINVAL
 
-abbrev pub base : Slot → Whence → Plan ℕ
-base it From_start = Give 0
-base it From_offset = ask (Find_offset it.description)
-base it From_end = ask (Measure it.inode)
+-- the next place of a file from one on that is in a hole, or in none; the end is a hole, and behind it
+-- nothing is (Linux, lseek: SEEK_HOLE, SEEK_DATA)
+abbrev pub found_from : Bool → ℕ → ℕ → Plan ℕ
+found_from holes n from = do
+  size ← ask (Measure n)
+  refuse_if (nat_le size from) ENXIO
+  passed ← ask (Pass_blocks (not holes) n (from / block_length)
+      (suc ((size - 1) / block_length - from / block_length)))
+  refuse_if (not holes && nat_le size (behind_blocks from passed)) ENXIO
+  Give (min size (behind_blocks from passed))
+
+-- the offset that a whence and a distance come to
+abbrev pub aimed : Slot → ℤ → Whence → Plan ℤ
+aimed it move From_start = Give move
+aimed it move From_offset = do
+  offset ← ask (Find_offset it.description)
+  Give (pos offset +ℤ move)
+aimed it move From_end = do
+  size ← ask (Measure it.inode)
+  Give (pos size +ℤ move)
+aimed it move To_data = do
+  from ← or_refuse ENXIO (offset_named move)
+  place ← found_from false it.inode from
+  Give (pos place)
+aimed it move To_hole = do
+  from ← or_refuse ENXIO (offset_named move)
+  place ← found_from true it.inode from
+  Give (pos place)
+
+-- a length that a call names: there is none of no byte
+abbrev pub length_named : ℤ → Option ℕ
+length_named (pos ℕ.zero) = None
+length_named (pos (suc more)) = Some (suc more)
+length_named (negsuc more) = None
+
+-- what becomes of a range of a file: it reaches to the range's end at least, nothing shows, or what it
+-- has of the range is zero
+abbrev pub spaced : ℕ → ℕ → ℕ → Space → Plan Change
+spaced n at count Grow = do
+  size ← ask (Measure n)
+  changed Done (if nat_lt size (at + count) then Cut n size (at + count) ∷ [] else [])
+spaced n at count Keep = unchanged Done
+spaced n at count Punch = do
+  size ← ask (Measure n)
+  changed Done (if nat_lt at size then Wipe n at (min count (size - at)) ∷ [] else [])
 
 -- what loses the name: a directory, which must be empty, or anything else
 abbrev pub replaced_by_name : ℕ → Bool → Plan Replaced
@@ -238,6 +287,12 @@ abbrev pub moved : Last → Place → Last → Option Place → Plan Change
 moved from what to None =
     changed Done (Move from.parent from.name to.parent to.name what.0 Over_nothing ∷ [])
 moved from what to (Some old) = move_onto from what to old
+
+-- each of two names gives what the other gave; two names of one object stay as they are
+abbrev pub swapped : Last → Place → Last → Place → Plan Change
+swapped at what onto other =
+    if what.0 == other.0 then unchanged Done
+    else changed Done (Swap at.parent at.name what.0 onto.parent onto.name other.0 ∷ [])
 
 -- a name that must not be there
 abbrev pub absent : Option Place → Plan ⊤
@@ -264,7 +319,7 @@ plan own (Open path flags) = do
   refuse_if (not (is_reading flags || is_writing flags)) EINVAL
   refuse_if (is_exclusive flags && not (is_creating flags)) EINVAL
   refuse_if (is_truncating flags && not (is_writing flags)) EINVAL
-  names ← parsed path
+  names ← parsed own.bounds.path_bytes path
   f ← first_of_free (free own)
   at ← last_of own.root (if is_creating flags && is_exclusive flags then EEXIST else EISDIR) names
   opened own flags f at at.found
@@ -284,36 +339,46 @@ plan own (Pread f count offset) = do
 plan own (Write f bytes) = do
   it ← slot own f
   refuse_if (not it.writing) EBADF
-  if is_empty bytes then unchanged (Count 0) else write_some own.largest it bytes
+  if is_empty bytes then unchanged (Count 0) else write_some own.bounds.file_bytes it bytes
 plan own (Pwrite f bytes offset) = do
   it ← slot own f
   refuse_if (not it.writing) EBADF
   refuse_if (is_pipe it.kind) ESPIPE
   at ← or_refuse EINVAL (offset_named offset)
-  if is_empty bytes then unchanged (Count 0) else write_from own.largest it.inode at bytes
+  if is_empty bytes then unchanged (Count 0) else write_from own.bounds.file_bytes it.inode at bytes
 plan own (Lseek f move whence) = do
   it ← slot own f
   refuse_if (is_pipe it.kind) ESPIPE
-  place ← base it whence
-  sought own.largest it (pos place +ℤ move)
+  sum ← aimed it move whence
+  sought own.bounds.file_bytes it sum
 plan own (Ftruncate f len) = do
   it ← slot own f
   refuse_if (not it.writing) EBADF
   refuse_if (is_pipe it.kind) EINVAL
-  refuse_if (nat_lt own.largest len) EFBIG
+  refuse_if (nat_lt own.bounds.file_bytes len) EFBIG
   cut ← cut_to it.inode len
   changed Done cut
 plan own (Truncate path len) = do
-  names ← parsed path
+  names ← parsed own.bounds.path_bytes path
   place ← walk (own.root, Some A_directory) names
   refuse_if (is_directory place) EISDIR
   refuse_if (is_link place) ELOOP
   refuse_if (is_special place) EINVAL
-  refuse_if (nat_lt own.largest len) EFBIG
+  refuse_if (nat_lt own.bounds.file_bytes len) EFBIG
   cut ← cut_to place.0 len
   changed Done cut
+-- the tests of a range in Linux's order: its numbers before how the file is open, and before its kind
+-- (Linux, fallocate)
+plan own (Fallocate f offset len space) = do
+  it ← slot own f
+  at ← or_refuse EINVAL (offset_named offset)
+  count ← or_refuse EINVAL (length_named len)
+  refuse_if (not it.writing) EBADF
+  refuse_if (is_pipe it.kind) ESPIPE
+  refuse_if (nat_lt own.bounds.file_bytes (at + count)) EFBIG
+  spaced it.inode at count space
 plan own (Stat path) = do
-  names ← parsed path
+  names ← parsed own.bounds.path_bytes path
   place ← walk (own.root, Some A_directory) names
   refuse_if (is_link place) ELOOP
   status place
@@ -321,35 +386,47 @@ plan own (Fstat f) = do
   it ← slot own f
   status (it.inode, it.kind)
 plan own (Link old path) = do
-  from ← parsed old
-  to ← parsed path
+  from ← parsed own.bounds.path_bytes old
+  to ← parsed own.bounds.path_bytes path
   what ← walk (own.root, Some A_directory) from
   refuse_if (is_directory what) EPERM
   at ← last_of own.root EEXIST to
   absent at.found
   changed Done (Name_file at.parent at.name what.0 ∷ [])
 plan own (Unlink path) = do
-  names ← parsed path
+  names ← parsed own.bounds.path_bytes path
   at ← last_of own.root EPERM names
   what ← or_refuse ENOENT at.found
   refuse_if (is_directory what) EPERM
   changed Done (Unname_file at.parent at.name what.0 ∷ [])
 plan own (Rename old path) = do
-  from ← parsed old
-  to ← parsed path
+  from ← parsed own.bounds.path_bytes old
+  to ← parsed own.bounds.path_bytes path
   refuse_if (is_empty from || is_empty to) EBUSY
   at ← last_of own.root EBUSY from
   what ← or_refuse ENOENT at.found
   refuse_if (is_directory what && is_below from to) EINVAL
   onto ← last_of own.root EBUSY to
   moved at what onto onto.found
+-- both paths are walked before a name is missed (Linux, renameat2: RENAME_EXCHANGE)
+plan own (Exchange old path) = do
+  from ← parsed own.bounds.path_bytes old
+  to ← parsed own.bounds.path_bytes path
+  refuse_if (is_empty from || is_empty to) EBUSY
+  at ← last_of own.root EBUSY from
+  onto ← last_of own.root EBUSY to
+  what ← or_refuse ENOENT at.found
+  other ← or_refuse ENOENT onto.found
+  refuse_if (is_directory what && is_below from to) EINVAL
+  refuse_if (is_directory other && is_below to from) EINVAL
+  swapped at what onto other
 plan own (Mkdir path) = do
-  names ← parsed path
+  names ← parsed own.bounds.path_bytes path
   at ← last_of own.root EEXIST names
   absent at.found
   changed Done (Make_directory at.parent at.name 0 ∷ [])
 plan own (Rmdir path) = do
-  names ← parsed path
+  names ← parsed own.bounds.path_bytes path
   at ← last_of own.root EBUSY names
   what ← or_refuse ENOENT at.found
   refuse_if (not (is_directory what)) ENOTDIR
@@ -357,7 +434,7 @@ plan own (Rmdir path) = do
   refuse_if (not (is_empty entries)) ENOTEMPTY
   changed Done (Unname_directory at.parent at.name what.0 ∷ [])
 plan own (List_directory path) = do
-  names ← parsed path
+  names ← parsed own.bounds.path_bytes path
   place ← walk (own.root, Some A_directory) names
   refuse_if (is_link place) ELOOP
   refuse_if (not (is_directory place)) ENOTDIR
@@ -369,34 +446,34 @@ plan own (Symlink target path) = do
   refuse_if (is_empty target) ENOENT
   refuse_if (nat_lt target_limit (length target)) ENAMETOOLONG
   refuse_if (list_any (λ b. b == 0) target) EINVAL
-  names ← parsed path
+  names ← parsed own.bounds.path_bytes path
   at ← last_of own.root EEXIST names
   absent at.found
   changed Done (Make_fixed at.parent at.name (Link_to target) 0 ∷ [])
 plan own (Readlink path) = do
-  names ← parsed path
+  names ← parsed own.bounds.path_bytes path
   place ← walk (own.root, Some A_directory) names
   refuse_if (not (is_link place)) EINVAL
   target ← ask (Read_target place.0)
   unchanged (Bytes target)
 plan own (Lstat path) = do
-  names ← parsed path
+  names ← parsed own.bounds.path_bytes path
   place ← walk (own.root, Some A_directory) names
   status place
 plan own (Mknod path special) = do
-  names ← parsed path
+  names ← parsed own.bounds.path_bytes path
   at ← last_of own.root EEXIST names
   absent at.found
   changed Done (Make_fixed at.parent at.name (special_object special) 0 ∷ [])
 -- a symbolic link in the last place is refused by chmod, which would follow it, and is itself what
 -- this chown is about (POSIX.1-2017, chmod, lchown)
 plan own (Chmod path permissions) = do
-  names ← parsed path
+  names ← parsed own.bounds.path_bytes path
   place ← walk (own.root, Some A_directory) names
   refuse_if (is_link place) ELOOP
   revised place.0 (permitted permissions)
 plan own (Chown path owner) = do
-  names ← parsed path
+  names ← parsed own.bounds.path_bytes path
   place ← walk (own.root, Some A_directory) names
   revised place.0 (owned place.1 owner)
 plan own (Fchmod f permissions) = do
@@ -410,7 +487,7 @@ plan own (Dup f) = do
   duplicated own it (free own)
 plan own (Dup2 f g) = do
   it ← slot own f
-  refuse_if (nat_lt 63 g) EBADF
+  refuse_if (nat_le (open_limit own) g) EBADF
   if f == g then unchanged (Descriptor f)
       else changed (Descriptor g)
       (Share_slot own.pid g it.description (pipe_in (Some it) ++ pipe_in (slot_at own g)) ∷ [])

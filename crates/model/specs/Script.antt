@@ -8,7 +8,7 @@ use Rattle.model.specs.Plan.{Errno}
 use Rattle.model.specs.Changes.{all_applied, applied, tidy, holders, openings}
 use Rattle.model.specs.Calls.{OpenFlags, NewOwner, Call, Answer, Stated}
 use Rattle.model.specs.Steps.{reply, edits}
-use Rattle.model.specs.Limits.{default_largest_file}
+use Rattle.model.specs.Limits.{Bounds, default_bounds}
 use Rattle.model.specs.Moments.{Setup, start}
 
 -- what a run of calls goes through, opened
@@ -16,14 +16,23 @@ unfoldable pub runs : ⊤
 unfolding computes applied tidy links ends holders openings
 runs = tt
 
--- these priorities, and the largest file where none is given
+-- these priorities, and the bounds where none are given
 abbrev pub by_default : List ℕ → Setup
-by_default priorities = record { priorities = priorities; largest = default_largest_file }
+by_default priorities = record { priorities = priorities; bounds = default_bounds }
 
--- a kernel with two processes and the root alone, whose number is 0, and with files of at most so
--- many bytes
+-- a kernel with two processes and the root alone, whose number is 0, and with these bounds
+abbrev pub fresh_within : Bounds → Kernel
+fresh_within bounds = start 0 (record { priorities = 0 ∷ 0 ∷ []; bounds = bounds })
+
+-- with files of at most so many bytes; with so many descriptors; with paths of so many bytes
 abbrev pub fresh_with : ℕ → Kernel
-fresh_with largest = start 0 (record { priorities = 0 ∷ 0 ∷ []; largest = largest })
+fresh_with largest = fresh_within (record default_bounds { file_bytes = largest })
+
+abbrev pub fresh_opening : ℕ → Kernel
+fresh_opening descriptors = fresh_within (record default_bounds { descriptors = descriptors })
+
+abbrev pub fresh_walking : ℕ → Kernel
+fresh_walking path_bytes = fresh_within (record default_bounds { path_bytes = path_bytes })
 
 abbrev pub fresh : Kernel
 fresh = start 0 (by_default (0 ∷ 0 ∷ []))

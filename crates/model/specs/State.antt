@@ -16,6 +16,7 @@ use Rattle.ids.specs.Rights.{first_rights}
 use Rattle.std.specs.declared.cmp.Ordering.{Ordering}
 use Rattle.std.specs.Cmp.Lexicographic.{slice_cmp}
 use Rattle.std.specs.List.{sum_by, count_by}
+pub use Rattle.model.specs.Limits.{Bounds}
 
 abbrev pub Name : Type 0
 Name = List ℕ
@@ -48,8 +49,9 @@ pub record Process : Type 0 where
 
 -- inodes and descriptions have their numbers from one range; `rights` are those of the inodes whose
 -- permissions or owner were set;
--- `made` is how many processes were ever made; `largest` is the most bytes of a file, which
--- nothing changes (POSIX.1-2017, limits.h: the implementation's maximum file size)
+-- `made` is how many processes were ever made; `bounds` are the most bytes of a file, how many
+-- descriptors a process may have, and the most bytes of a path, which nothing changes (POSIX.1-2017,
+-- limits.h: the implementation's maximum file size, OPEN_MAX and PATH_MAX)
 pub record Kernel : Type 0 where
   pub root : ℕ
   pub inodes : FinMap nat_cmp Inode
@@ -57,7 +59,7 @@ pub record Kernel : Type 0 where
   pub descriptions : FinMap nat_cmp Description
   pub processes : FinMap nat_cmp Process
   pub made : ℕ
-  pub largest : ℕ
+  pub bounds : Bounds
 
 abbrev pub kind : Inode → Kind
 kind (File bytes) = A_file

@@ -13,8 +13,8 @@ abbrev pub told : {A : Type 0} → Result A Errno → Plan A
 told (Ok x) = Give x
 told (Err e) = Refuse e
 
-abbrev pub parsed : List ℕ → Plan (List Name)
-parsed bytes = told (path_names bytes)
+abbrev pub parsed : ℕ → List ℕ → Plan (List Name)
+parsed most bytes = told (path_names most bytes)
 
 -- what a name gives: its number and its kind
 abbrev pub Place : Type 0

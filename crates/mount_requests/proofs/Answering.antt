@@ -13,7 +13,8 @@ use Rattle.course.specs.declared.made.Cut.{Cut}
 use Rattle.mount_tables.specs.Numbers.{is_reserved}
 use Rattle.mount_requests.specs.Answers.{Answers, AnswersIfRoom, Failed, IsPlanned, NoRoom, Refused, Told, Unplanned}
 use Rattle.mount_requests.specs.Failures.{and_then, error, failure_of}
-use Rattle.mount_requests.specs.Requests.{AnswersLookUp, AnswersLookUpBy, AnswersName, IsAnswered, IsOfFiles, IsOfNames, OpensAs, making_open, put_by}
+use Rattle.mount_requests.specs.Asked.{is_exchange}
+use Rattle.mount_requests.specs.Requests.{AnswersLookUp, AnswersLookUpBy, AnswersName, AnswersRename, AnswersRenameBy, IsAnswered, IsOfFiles, IsOfNames, OpensAs, making_open, put_by}
 use Rattle.mount_requests.specs.Seen.{Seen}
 use Rattle.mount_requests.specs.declared.failure.Failure.{Failure}
 use Rattle.mount_requests.specs.declared.opening.Creation.{Creation}
@@ -87,6 +88,10 @@ opens_as s later pid node cut {old = old} {new = new} {r = r} e h = subst (λ (x
 
 pub not_reserved : (s later : Seen) (pid node : ℕ) (name : List ℕ) {old new : Shown} {r : Result Reply Failure} → is_reserved node name ≡ false → AnswersName s later pid node name old new r → AnswersLookUp s later pid node name old new r
 not_reserved s later pid node name {old} {new} {r} e h = subst (λ (b : Bool). AnswersLookUpBy b s later pid node name old new r) (sym e) h
+
+-- a rename, as its flags say
+pub renames_by : (s later : Seen) (pid node : ℕ) (name : List ℕ) (new_node : ℕ) (new_name : List ℕ) (flags : ℕ) (old new : Shown) (b : Bool) (r : Result Reply Failure) → is_exchange flags ≡ b → AnswersRenameBy b s later pid node name new_node new_name flags old new r → AnswersRename s later pid node name new_node new_name flags old new r
+renames_by s later pid node name new_node new_name flags old new b r e h = subst (λ (x : Bool). AnswersRenameBy x s later pid node name new_node new_name flags old new r) (sym e) h
 
 pub answers : (s later : Seen) (pid : ℕ) (who : Caller) {o p : Operation} (old new : Shown) (r : Result Reply Failure) → o ≡ p → IsAnswered s later pid who p old new r → IsAnswered s later pid who o old new r
 answers s later pid who old new r e h = subst (λ (x : Operation). IsAnswered s later pid who x old new r) (sym e) h

@@ -18,12 +18,12 @@ use Rattle.view_times.specs.Known.{Known, freed, noted_by, times_of}
 use Rattle.view_times.proofs.Calls.{frees, keeps, unseen}
 use Rattle.mount_requests.specs.Answers.{Answered, Answers, AnswersIfRoom, Failed, NoRoom, Refused, Told, Unplanned}
 use Rattle.mount_requests.specs.Apart.{AreApart, IsUnknownIn}
-use Rattle.mount_requests.specs.Asked.{cut_by}
+use Rattle.mount_requests.specs.Asked.{cut_by, is_exchange}
 use Rattle.mount_requests.specs.Found.{inode_of}
 use Rattle.mount_requests.specs.Later.{with_creation}
-use Rattle.mount_requests.specs.Requests.{AnswersLookUpBy, IsAnswered, born_if, with_opening}
+use Rattle.mount_requests.specs.Requests.{AnswersLookUpBy, AnswersRenameBy, IsAnswered, born_if, with_opening}
 use Rattle.mount_requests.specs.Seen.{Seen}
-use Rattle.mount_requests.specs.Times.{Events, inode_named, of_cutting, of_linking, of_making, of_removing, of_renaming, of_setting, of_writing, view_at, with_each, with_events_if}
+use Rattle.mount_requests.specs.Times.{Events, inode_named, of_copying, of_cutting, of_exchanging, of_linking, of_making, of_removing, of_renaming, of_setting, of_writing, view_at, with_each, with_events_if}
 use Rattle.mount_requests.specs.declared.failure.Failure.{Failure}
 use Rattle.mount_requests.specs.declared.opening.Opening.{Opening}
 use Rattle.mount_requests.specs.declared.opening.Opening.TheVariants.{Again, First}
@@ -107,6 +107,10 @@ module _ (s : Seen) (node : ℕ) where
   look_up_apart true later pid name old new r h = apart_is s here h.2
   look_up_apart false later pid name old new r h = answers_apart here (λ p x known told k. apart_to s here k.1 (apart_same s here _ refl)) h
 
+  rename_apart : (b : Bool) (later : Seen) (pid : ℕ) (name : List ℕ) (new_node : ℕ) (new_name : List ℕ) (flags : ℕ) (old new : Shown) (r : Result Reply Failure) → here ≢ 0 → AnswersRenameBy b s later pid node name new_node new_name flags old new r → AreApart s later here
+  rename_apart true later pid name new_node new_name flags old new r live h = answers_apart here (λ p x known told k. apart_to s here k.1 (apart_events s here _ (of_exchanging (inode_named s node name) (inode_named s new_node new_name) (inode_of s node) (inode_of s new_node)) live refl)) h
+  rename_apart false later pid name new_node new_name flags old new r live h = answers_apart here (λ p x known told k. apart_to s here k.1 (apart_events s here _ (of_renaming (inode_named s node name) (inode_named s new_node new_name) (inode_of s node) (inode_of s new_node)) live refl)) h
+
 pub answered_apart : (s later : Seen) (pid : ℕ) (who : Caller) (o : Operation) (old new : Shown) (r : Result Reply Failure) → view_at s who.node ≢ 0 → IsAnswered s later pid who o old new r → AreApart s later (view_at s who.node)
 answered_apart s later pid who (asked.Lookup name) old new r live h = look_up_apart s who.node (is_reserved who.node name) later pid name old new r h
 answered_apart s later pid who (asked.GetAttr x) old new r live h = answers_apart (view_at s who.node) (λ p x known told k. apart_is s (view_at s who.node) k.1) h
@@ -120,13 +124,15 @@ answered_apart s later pid who (asked.MkNod y z) old new r live h = answers_apar
 answered_apart s later pid who (asked.MkDir y z) old new r live h = answers_apart (view_at s who.node) (λ p x known told k. apart_to s (view_at s who.node) k.1 (apart_birth s (view_at s who.node) _ x.num (of_making x.num (inode_of s who.node)) live (births_stay (made s.nodes x.num) _ x.num x.kind) refl)) h
 answered_apart s later pid who (asked.Unlink name) old new r live h = answers_apart (view_at s who.node) (λ p x known told k. apart_to s (view_at s who.node) k.1 (apart_events s (view_at s who.node) _ (of_removing (inode_named s who.node name) (inode_of s who.node)) live refl)) h
 answered_apart s later pid who (asked.RmDir name) old new r live h = answers_apart (view_at s who.node) (λ p x known told k. apart_to s (view_at s who.node) k.1 (apart_events s (view_at s who.node) _ (of_removing (inode_named s who.node name) (inode_of s who.node)) live refl)) h
-answered_apart s later pid who (asked.Rename name new_node new_name flags) old new r live h = answers_apart (view_at s who.node) (λ p x known told k. apart_to s (view_at s who.node) k.1 (apart_events s (view_at s who.node) _ (of_renaming (inode_named s who.node name) (inode_named s new_node new_name) (inode_of s who.node) (inode_of s new_node)) live refl)) h
+answered_apart s later pid who (asked.Rename name new_node new_name flags) old new r live h = rename_apart s who.node (is_exchange flags) later pid name new_node new_name flags old new r live h
 answered_apart s later pid who (asked.Link x y) old new r live h = answers_apart (view_at s who.node) (λ p x known told k. apart_to s (view_at s who.node) k.1 (apart_events s (view_at s who.node) _ (of_linking p.inode (inode_of s who.node)) live refl)) h
 answered_apart s later pid who (asked.Create x y z w) old new r live h = answers_apart (view_at s who.node) (λ p made_file known told k. apart_to s (view_at s who.node) k.1 (created_apart s who.node made_file.is_new (cut_by y w) made_file.stat.num _ live (births_stay (born_if made_file.is_new s.nodes made_file.stat.num) _ made_file.stat.num made_file.stat.kind) refl)) h
 answered_apart s later pid who (asked.Open x y) old new r live h = answers_apart (view_at s who.node) (λ p fd known told k. apart_to s (view_at s who.node) k.1 (opening_apart s who.node pid (cut_by x y) p fd live)) h
 answered_apart s later pid who (asked.Read x y z w) old new r live h = answers_apart (view_at s who.node) (λ p x known told k. apart_is s (view_at s who.node) k.1) h
 answered_apart s later pid who (asked.Write x y z w v) old new r live h = answers_apart (view_at s who.node) (λ p x known told k. apart_to s (view_at s who.node) k.1 (apart_events s (view_at s who.node) _ (of_writing p.inode) live refl)) h
 answered_apart s later pid who (asked.Lseek x y z) old new r live h = answers_apart (view_at s who.node) (λ p x known told k. apart_is s (view_at s who.node) k.1) h
+answered_apart s later pid who (asked.Fallocate x y z w) old new r live h = answers_apart (view_at s who.node) (λ p x known told k. apart_to s (view_at s who.node) k.1 (apart_events s (view_at s who.node) _ (of_writing p.inode) live refl)) h
+answered_apart s later pid who (asked.CopyFileRange a b d e f i j) old new r live h = answers_apart (view_at s who.node) (λ p x known told k. apart_to s (view_at s who.node) k.1 (apart_events s (view_at s who.node) _ (of_copying x p.inode) live refl)) h
 answered_apart s later pid who (asked.Forget x) old new r live h = apart_is s (view_at s who.node) h.2
 answered_apart s later pid who (asked.BatchForget x) old new r live h = apart_is s (view_at s who.node) h.2
 answered_apart s later pid who (asked.Flush x) old new r live h = apart_is s (view_at s who.node) h.2

@@ -4,6 +4,7 @@ use Rattle.std.specs.Prelude.{Result, Ok, Err, if◌then◌else◌}
 use Rattle.ids.specs.declared.aspect.Why.{Why}
 use Rattle.ids.specs.declared.call.Call.{Call}
 use Rattle.ids.specs.declared.call.Call.TheVariants as call
+use Rattle.ids.specs.declared.call.Whence.{Whence}
 use Rattle.ids.specs.declared.fixed.Special.{Special}
 use Rattle.ids.specs.declared.flags.OpenFlags.{OpenFlags}
 use Rattle.ids.specs.declared.reply.Kind.{Kind}
@@ -13,7 +14,7 @@ use Rattle.ids.specs.declared.rights.NewOwner.{NewOwner}
 use Rattle.ids.specs.declared.rights.Owner.{Owner}
 use Rattle.ids.specs.declared.rights.Rights.{Rights}
 use Rattle.course.specs.Course.{Course, Give, Step, ◌>>=◌}
-use Rattle.course.specs.Courses.{both, by_descriptor, changing_at, closing, closing_for, closing_spare, creating, creating_cut, creating_in, cutting, doing, done_with, dropping, dropping_by, dropping_if, entitling_at, entitling_made, entitling_open, finding, finding_at, fresh, if_absent, if_cut, if_entitled, if_found, if_listed, if_same, if_seen, if_there, inside, linking, listing, listing_at, looking_at, looking_for, making, making_directory, making_entitled, making_file, making_inside, making_link, making_node, making_owned, making_special, moving, on_ok, opening, opening_cut, opening_file, opening_this, owning_at, owning_open, permitting_at, permitting_open, reading, reading_link, reading_target, same_or_stale, seeing, seeing_new, sizing_at, sizing_open, stating, told_or_stale, unless_new, updating_at, updating_by, updating_open, writing}
+use Rattle.course.specs.Courses.{both, by_descriptor, changing_at, closing, closing_for, closing_spare, creating, creating_cut, creating_in, cutting, doing, done_with, dropping, dropping_by, dropping_if, entitling_at, entitling_made, entitling_open, finding, finding_at, fresh, if_absent, if_cut, if_entitled, if_found, if_listed, if_same, if_seen, if_there, inside, linking, listing, listing_at, looking_at, looking_for, making, making_directory, making_entitled, making_file, making_inside, making_link, making_node, making_owned, making_special, moving, on_ok, opening, opening_cut, opening_file, opening_this, owning_at, owning_open, placing, permitting_at, permitting_open, reading, reading_link, reading_target, same_or_stale, seeing, seeing_new, sizing_at, sizing_open, stating, told_or_stale, unless_new, updating_at, updating_by, updating_open, writing}
 use Rattle.course.specs.Faults.{done_in, gives_none, is_abort, is_missing, is_special, is_there, unless_aborted, unless_special}
 use Rattle.course.specs.Rights.{both_of, has_set_ids, nobody, owner_in, rights_in}
 use Rattle.course.specs.declared.fault.Fault.{Fault}
@@ -27,9 +28,9 @@ use Rattle.course.specs.declared.place.Place.{Place}
 use Rattle.course.specs.declared.updates.Paths.{Paths}
 use Rattle.course.specs.declared.updates.Update.{Update}
 use Rattle.mount_requests.specs.Aborts.{EndsAtAborts, IsNoAbort}
-use Rattle.mount_requests.proofs.NoAborts.{bytes_no_abort, count_no_abort, done_no_abort, fd_no_abort, names_no_abort, stat_no_abort}
+use Rattle.mount_requests.proofs.NoAborts.{bytes_no_abort, count_no_abort, done_no_abort, fd_no_abort, names_no_abort, place_no_abort, stat_no_abort}
 use Rattle.mount_requests.specs.Found.{handle_of, once}
-use Rattle.mount_requests.specs.Requests.{listed_by, listing_anew, making_open, moving_by, opened_by, put_by, setting_by, written_by}
+use Rattle.mount_requests.specs.Requests.{allocating, copying_by, exchanging_by, listed_by, listing_anew, making_open, moving_by, opened_by, put_by, setting_by, written_by}
 use Rattle.mount_requests.specs.Seen.{Seen}
 use Rattle.mount_requests.specs.declared.changing.Setting.{Setting}
 use Rattle.mount_requests.specs.declared.opening.Creation.{Creation}
@@ -37,6 +38,9 @@ use Rattle.mount_requests.specs.declared.opening.Opening.{Opening}
 use Rattle.mount_requests.specs.declared.opening.Opening.TheVariants.{Again, First}
 use Rattle.mount_requests.specs.declared.planning.NewName.{NewName}
 use Rattle.mount_requests.specs.declared.reading.Directory.{Directory}
+use Rattle.mount_requests.specs.declared.ranges.Allocating.{Allocating}
+use Rattle.mount_requests.specs.declared.ranges.Copying.{Copying}
+use Rattle.mount_requests.specs.declared.removing.Exchanging.{Exchanging}
 use Rattle.mount_requests.specs.declared.removing.Moving.{Moving}
 
 -- what comes behind a course gives an abort on, and ends at aborts itself
@@ -315,6 +319,11 @@ move_name pid m =
     let move : Course (Result (Unit {0}) Fault) = moving pid m.from.path m.to.path m.absent in
     inside_ends pid m.from.place (inside pid m.to.place move) (inside_ends pid m.to.place move (moving_ends pid m.from.path m.to.path m.absent))
 
+pub exchange : (pid : ℕ) (e : Exchanging) → EndsAtAborts (exchanging_by pid e)
+exchange pid e =
+    let swap : Course (Result (Unit {0}) Fault) = doing pid (call.Exchange e.first.path e.second.path) in
+    inside_ends pid e.first.place (inside pid e.second.place swap) (inside_ends pid e.second.place swap (doing_ends pid (call.Exchange e.first.path e.second.path)))
+
 pub open_file : (pid : ℕ) (cut : Cut) (how : Opening) → EndsAtAborts (opened_by pid cut how)
 open_file pid cut (Again inode handle fd) = then_on (cutting pid fd cut) _ (cutting_ends pid fd cut) (λ done. tt)
 open_file pid cut (First view path inode) = opening_cut_ends pid path inode cut
@@ -333,6 +342,15 @@ put_ends pid bytes fd None = then_on (stating pid (call.Fstat fd)) _ (stating_en
 
 pub write : (pid : ℕ) (bytes : List ℕ) (wanted : Bool) (fd : ℕ) (offset : Option ℤ) → EndsAtAborts (written_by pid bytes wanted fd offset)
 write pid bytes wanted fd offset = then_on (dropping_if pid fd wanted) _ (dropping_if_ends pid fd wanted) (λ dropped. put_ends pid bytes fd offset)
+
+pub seek : (pid fd : ℕ) (offset : ℤ) (whence : Whence) → EndsAtAborts (placing pid fd offset whence)
+seek pid fd offset whence = (λ why again. refl, place_no_abort)
+
+pub allocate : (pid : ℕ) (a : Allocating) → EndsAtAborts (allocating pid a)
+allocate pid a = doing_ends pid (call.Fallocate a.fd a.offset a.length a.space)
+
+pub copy : (pid : ℕ) (c : Copying) → EndsAtAborts (copying_by pid c)
+copy pid c = then_on (reading pid c.from c.count c.offset) _ (read pid c.from c.count c.offset) (λ bytes. writing_ends pid c.to bytes c.place)
 
 pub list : (pid : ℕ) (d : Directory) → EndsAtAborts (listed_by pid d)
 list pid d = listing_at_ends pid d.inode (once d.paths)

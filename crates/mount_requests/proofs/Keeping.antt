@@ -19,11 +19,11 @@ use Rattle.mount_tables.specs.Processes.{held, let_go}
 use Rattle.mount_tables.specs.declared.processes.Role.{Role}
 use Rattle.mount_tables.specs.declared.processes.Role.TheVariants.{Holder, Idle, Of}
 use Rattle.mount_requests.specs.Answers.{Answered, Answers, AnswersIfRoom, Failed, NoRoom, Refused, Told, Unplanned}
-use Rattle.mount_requests.specs.Asked.{cut_by}
+use Rattle.mount_requests.specs.Asked.{cut_by, is_exchange}
 use Rattle.mount_requests.specs.Found.{handle_of}
 use Rattle.mount_requests.specs.Keeping.{AreKept, Keeps, purpose}
 use Rattle.mount_requests.specs.Later.{opened_first}
-use Rattle.mount_requests.specs.Requests.{AnswersLookUpBy, IsAnswered, with_open_by, with_opening}
+use Rattle.mount_requests.specs.Requests.{AnswersLookUpBy, AnswersRenameBy, IsAnswered, with_open_by, with_opening}
 use Rattle.mount_requests.specs.Times.{Events, with_events_if}
 use Rattle.mount_requests.specs.Seen.{Seen}
 use Rattle.mount_requests.specs.declared.failure.Failure.{Failure}
@@ -119,6 +119,10 @@ look_up_keeps : (b : Bool) (s later : Seen) (pid node : ℕ) (name : List ℕ) (
 look_up_keeps true s later pid node name old new r h = keeps_is h.2
 look_up_keeps false s later pid node name old new r h = answers_keep (λ p x known told k. keeps_to k.1 (stands _ refl refl refl refl)) h
 
+rename_keeps : (b : Bool) (s later : Seen) (pid node : ℕ) (name : List ℕ) (new_node : ℕ) (new_name : List ℕ) (flags : ℕ) (old new : Shown) (r : Result Reply Failure) → AnswersRenameBy b s later pid node name new_node new_name flags old new r → Keeps s later
+rename_keeps true s later pid node name new_node new_name flags old new r h = answers_keep (λ p x known told k. keeps_to k.1 (stands _ refl refl refl refl)) h
+rename_keeps false s later pid node name new_node new_name flags old new r h = answers_keep (λ p x known told k. keeps_to k.1 (stands _ refl refl refl refl)) h
+
 pub answered_keeps : (s later : Seen) (pid : ℕ) (who : Caller) (o : Operation) (old new : Shown) (r : Result Reply Failure) → IsAnswered s later pid who o old new r → Keeps s later
 answered_keeps s later pid who (asked.Lookup name) old new r h = look_up_keeps (is_reserved who.node name) s later pid who.node name old new r h
 answered_keeps s later pid who (asked.GetAttr x) old new r h = answers_keep (λ p x known told k. keeps_is k.1) h
@@ -132,13 +136,15 @@ answered_keeps s later pid who (asked.MkNod x y) old new r h = answers_keep (λ 
 answered_keeps s later pid who (asked.MkDir x y) old new r h = answers_keep (λ p x known told k. keeps_to k.1 (stands _ refl refl refl refl)) h
 answered_keeps s later pid who (asked.Unlink x) old new r h = answers_keep (λ p x known told k. keeps_to k.1 (stands _ refl refl refl refl)) h
 answered_keeps s later pid who (asked.RmDir x) old new r h = answers_keep (λ p x known told k. keeps_to k.1 (stands _ refl refl refl refl)) h
-answered_keeps s later pid who (asked.Rename x y z w) old new r h = answers_keep (λ p x known told k. keeps_to k.1 (stands _ refl refl refl refl)) h
+answered_keeps s later pid who (asked.Rename x y z w) old new r h = rename_keeps (is_exchange w) s later pid who.node x y z w old new r h
 answered_keeps s later pid who (asked.Link x y) old new r h = answers_keep (λ p x known told k. keeps_to k.1 (stands _ refl refl refl refl)) h
 answered_keeps s later pid who (asked.Create x y z w) old new r h = answers_keep (λ p made known told k. keeps_to k.1 (created_keeps s p.view pid made _ refl refl refl refl)) h
 answered_keeps s later pid who (asked.Open x y) old new r h = answers_keep (λ p fd known told k. keeps_to k.1 (opening_keeps s pid who.node (cut_by x y) p fd)) h
 answered_keeps s later pid who (asked.Read x y z w) old new r h = answers_keep (λ p x known told k. keeps_is k.1) h
 answered_keeps s later pid who (asked.Write x y z w v) old new r h = answers_keep (λ p x known told k. keeps_to k.1 (stands _ refl refl refl refl)) h
 answered_keeps s later pid who (asked.Lseek x y z) old new r h = answers_keep (λ p x known told k. keeps_is k.1) h
+answered_keeps s later pid who (asked.Fallocate x y z w) old new r h = answers_keep (λ p x known told k. keeps_to k.1 (stands _ refl refl refl refl)) h
+answered_keeps s later pid who (asked.CopyFileRange a b d e f i j) old new r h = answers_keep (λ p x known told k. keeps_to k.1 (stands _ refl refl refl refl)) h
 answered_keeps s later pid who (asked.Forget x) old new r h = keeps_is h.2
 answered_keeps s later pid who (asked.BatchForget x) old new r h = keeps_is h.2
 answered_keeps s later pid who (asked.Flush x) old new r h = keeps_is h.2

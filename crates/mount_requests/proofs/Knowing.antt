@@ -17,7 +17,7 @@ use Rattle.view_times.specs.Known.{Known, times_of}
 use Rattle.view_times.specs.declared.times.Times.{Times}
 use Rattle.mount_requests.specs.Answers.{Says}
 use Rattle.mount_requests.specs.Found.{handle_of}
-use Rattle.mount_requests.specs.Later.{opened_first, with_creation, with_link, with_look_up, with_made, with_move, with_new, without_name}
+use Rattle.mount_requests.specs.Later.{opened_first, with_creation, with_exchange, with_link, with_look_up, with_made, with_move, with_new, without_name}
 use Rattle.mount_requests.specs.Requests.{ShowsMade, born_if, handle_made, handle_made_by, with_created, with_open, with_open_by}
 use Rattle.mount_requests.specs.Seen.{Seen}
 use Rattle.mount_requests.specs.Times.{of_linking, of_setting, times_at, times_if, view_by, with_events, with_events_if}
@@ -65,6 +65,13 @@ moved_away s u later node name new_node new_name p q a b c known =
     known ∙ ap (λ (v : Seen). with_move v p.parent p.name q.parent q.name) a
     ∙ ap (λ (x : DirectoryEntry). with_move s x.parent x.name q.parent q.name) b
     ∙ ap (λ (x : DirectoryEntry). with_move s node name x.parent x.name) c
+
+-- two names were exchanged
+pub changed_places : (s u later : Seen) (node : ℕ) (name : List ℕ) (new_node : ℕ) (new_name : List ℕ) (p q : DirectoryEntry) → u ≡ s → p ≡ named node name → q ≡ named new_node new_name → later ≡ with_exchange u p.parent p.name q.parent q.name → later ≡ with_exchange s node name new_node new_name
+changed_places s u later node name new_node new_name p q a b c known =
+    known ∙ ap (λ (v : Seen). with_exchange v p.parent p.name q.parent q.name) a
+    ∙ ap (λ (x : DirectoryEntry). with_exchange s x.parent x.name q.parent q.name) b
+    ∙ ap (λ (x : DirectoryEntry). with_exchange s node name x.parent x.name) c
 
 -- attributes were set: what is told has the times that the node sees then
 set_by : (b : Bool) (s : Seen) (node : ℕ) (changes : Changes) (stat : Stat) → times_if (with_events_if b node (of_setting changes s.time stat.num) s) (with_events_if b node (of_setting changes s.time stat.num) s).times node stat.num ≡ times_if s (with_events_if b node (of_setting changes s.time stat.num) s).times node stat.num

@@ -3,7 +3,7 @@ use Rattle.std.proofs.Common.{◌≡◌, false, refl}
 use Rattle.ids.specs.declared.reply.Answer.TheVariants as answer
 use Rattle.ids.specs.declared.reply.Reply.{Reply}
 use Rattle.ids.specs.declared.reply.Reply.TheVariants as reply
-use Rattle.course.specs.Faults.{bytes_in, count_in, done_in, fd_in, names_in, stat_in}
+use Rattle.course.specs.Faults.{bytes_in, count_in, done_in, fd_in, names_in, place_in, stat_in}
 use Rattle.mount_requests.specs.Aborts.{IsNoAbort, tells_abort}
 
 pub done_no_abort : (r : Reply) → tells_abort r ≡ false → IsNoAbort (done_in r)
@@ -137,3 +137,25 @@ names_no_abort reply.HistoryFull other = refl
 names_no_abort reply.NoMemory other = refl
 names_no_abort reply.NoProcess other = refl
 names_no_abort (reply.Aborted why again) other = absurd cc
+
+pub place_no_abort : (r : Reply) → tells_abort r ≡ false → IsNoAbort (place_in r)
+place_no_abort (reply.Answer answer.Done) other = refl
+place_no_abort (reply.Answer (answer.Fd x)) other = refl
+place_no_abort (reply.Answer (answer.Count x)) other = refl
+place_no_abort (reply.Answer (answer.Place x)) other = tt
+place_no_abort (reply.Answer (answer.Bytes x)) other = refl
+place_no_abort (reply.Answer (answer.Pair x y)) other = refl
+place_no_abort (reply.Answer (answer.Stat x)) other = refl
+place_no_abort (reply.Answer (answer.Names x)) other = refl
+place_no_abort (reply.Answer (answer.Child x)) other = refl
+place_no_abort (reply.Errno x) other = refl
+place_no_abort reply.Begun other = refl
+place_no_abort reply.Committed other = refl
+place_no_abort (reply.GivenUp x) other = refl
+place_no_abort (reply.Busy x) other = refl
+place_no_abort reply.InTransaction other = refl
+place_no_abort reply.NotInTransaction other = refl
+place_no_abort reply.HistoryFull other = refl
+place_no_abort reply.NoMemory other = refl
+place_no_abort reply.NoProcess other = refl
+place_no_abort (reply.Aborted why again) other = absurd cc

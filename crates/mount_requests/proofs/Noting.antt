@@ -16,7 +16,7 @@ noted_at s later node view there events is known = known ∙ ap (λ (v : ℕ). n
 -- ---- room
 
 -- there is room still, by other names of what is known, of the table and of the node
-pub room_for : (s u : Seen) (t k : Kept) (node there : ℕ) → u ≡ s → k ≡ t → there ≡ node → 3 ≤ room_of t (view_at s node) → 3 ≤ room_of k (view_at u there)
+pub room_for : (s u : Seen) (t k : Kept) (node there : ℕ) → u ≡ s → k ≡ t → there ≡ node → 4 ≤ room_of t (view_at s node) → 4 ≤ room_of k (view_at u there)
 room_for s u t k node there same kept is h =
-    subst (λ (v : Seen). 3 ≤ room_of k (view_at v there)) (sym same)
-    (subst (λ (n : ℕ). 3 ≤ room_of k (view_at s n)) (sym is) (subst (λ (x : Kept). 3 ≤ room_of x (view_at s node)) (sym kept) h))
+    subst (λ (v : Seen). 4 ≤ room_of k (view_at v there)) (sym same)
+    (subst (λ (n : ℕ). 4 ≤ room_of k (view_at s n)) (sym is) (subst (λ (x : Kept). 4 ≤ room_of x (view_at s node)) (sym kept) h))

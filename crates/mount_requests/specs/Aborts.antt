@@ -2,6 +2,7 @@
 use Rattle.std.specs.Prelude.{◌≡◌, ℕ, ℤ, List, Bool, true, false, Option, Result, Ok, Err}
 use Rattle.ids.specs.declared.aspect.Why.{Why}
 use Rattle.ids.specs.declared.call.Call.{Call}
+use Rattle.ids.specs.declared.call.Whence.{Whence}
 use Rattle.ids.specs.declared.fixed.Special.{Special}
 use Rattle.ids.specs.declared.rights.Owner.{Owner}
 use Rattle.ids.specs.declared.rights.Rights.{Rights}
@@ -9,7 +10,7 @@ use Rattle.ids.specs.declared.reply.Reply.{Reply}
 use Rattle.ids.specs.declared.reply.Reply.TheVariants as reply
 use Rattle.course.specs.Course.{Course, Give, Step}
 use Rattle.course.specs.Courses.{doing, finding, inside, linking, making_directory, making_inside}
-use Rattle.course.specs.Courses.{making_link, making_node, reading, reading_link, stating}
+use Rattle.course.specs.Courses.{making_link, making_node, placing, reading, reading_link, stating}
 use Rattle.course.specs.Faults.{is_abort}
 use Rattle.course.specs.declared.fault.Fault.{Fault}
 use Rattle.course.specs.declared.fault.Fault.TheVariants.{Aborted}
@@ -18,7 +19,8 @@ use Rattle.course.specs.declared.making.Again.{Again}
 use Rattle.course.specs.declared.objects.Object.{Object}
 use Rattle.course.specs.declared.place.Place.{Place}
 use Rattle.course.specs.declared.updates.Update.{Update}
-use Rattle.mount_requests.specs.Requests.{listed_by, listing_anew, making_open, moving_by, opened_by}
+use Rattle.mount_requests.specs.Requests.{allocating, copying_by, exchanging_by, listed_by}
+use Rattle.mount_requests.specs.Requests.{listing_anew, making_open, moving_by, opened_by}
 use Rattle.mount_requests.specs.Requests.{setting_by, written_by}
 use Rattle.mount_requests.specs.Seen.{Seen}
 use Rattle.mount_requests.specs.declared.changing.Setting.{Setting}
@@ -26,6 +28,9 @@ use Rattle.mount_requests.specs.declared.opening.Creation.{Creation}
 use Rattle.mount_requests.specs.declared.opening.Opening.{Opening}
 use Rattle.mount_requests.specs.declared.planning.NewName.{NewName}
 use Rattle.mount_requests.specs.declared.reading.Directory.{Directory}
+use Rattle.mount_requests.specs.declared.ranges.Allocating.{Allocating}
+use Rattle.mount_requests.specs.declared.ranges.Copying.{Copying}
+use Rattle.mount_requests.specs.declared.removing.Exchanging.{Exchanging}
 use Rattle.mount_requests.specs.declared.removing.Moving.{Moving}
 
 -- whether a reply tells of an abort
@@ -62,12 +67,16 @@ pub record RequestsEndAtAborts : Type 0 where
   pub link : (pid : ℕ) (d : Option Place) (path : List ℕ) (inode : ℕ) (new_path : List ℕ)
       → EndsAtAborts (inside pid d (linking pid path inode new_path))
   pub remove : (pid : ℕ) (d : Option Place) (c : Call) → EndsAtAborts (inside pid d (doing pid c))
+  pub exchange : (pid : ℕ) (e : Exchanging) → EndsAtAborts (exchanging_by pid e)
   pub move : (pid : ℕ) (m : Moving) → EndsAtAborts (moving_by pid m)
   pub open_file : (pid : ℕ) (cut : Cut) (how : Opening) → EndsAtAborts (opened_by pid cut how)
   pub create : (s : Seen) (pid : ℕ) (c : Creation) (p : NewName) → EndsAtAborts (making_open s pid c p)
   pub read : (pid fd count : ℕ) (offset : ℤ) → EndsAtAborts (reading pid fd count offset)
   pub write : (pid : ℕ) (bytes : List ℕ) (dropping : Bool) (fd : ℕ) (offset : Option ℤ)
       → EndsAtAborts (written_by pid bytes dropping fd offset)
+  pub seek : (pid fd : ℕ) (offset : ℤ) (whence : Whence) → EndsAtAborts (placing pid fd offset whence)
+  pub allocate : (pid : ℕ) (a : Allocating) → EndsAtAborts (allocating pid a)
+  pub copy : (pid : ℕ) (c : Copying) → EndsAtAborts (copying_by pid c)
   pub list : (pid : ℕ) (d : Directory) → EndsAtAborts (listed_by pid d)
   pub list_anew : (pid node : ℕ) (names : List (List ℕ)) (d : Option Directory)
       → EndsAtAborts (listing_anew pid node names d)

@@ -1,7 +1,11 @@
 -- What the numbers and bits of requests say.
-use Rattle.std.specs.Prelude.{ℕ, ◌==◌, ◌||◌, ◌/◌, ◌%◌, ◌^◌, not, nat_lt, bit_and, ℤ, pos, Bool}
+use Rattle.std.specs.Prelude.{ℕ, ◌-◌, ◌==◌, ◌||◌, ◌/◌, ◌%◌, ◌^◌, not, nat_lt, nat_le, bit_and, ℤ, pos, Bool}
 use Rattle.std.specs.Prelude.{Option, Some, None, is_some, option_map, Result, Ok, Err}
 use Rattle.std.specs.Prelude.{if◌then◌else◌}
+use Rattle.ids.specs.declared.call.Space.{Space}
+use Rattle.ids.specs.declared.call.Space.TheVariants as space
+use Rattle.ids.specs.declared.call.Whence.{Whence}
+use Rattle.ids.specs.declared.call.Whence.TheVariants as ways
 use Rattle.ids.specs.declared.fixed.Special.{Special}
 use Rattle.ids.specs.declared.fixed.Special.TheVariants as special
 use Rattle.ids.specs.declared.rights.NewOwner.{NewOwner}
@@ -9,6 +13,8 @@ use Rattle.ids.specs.declared.rights.Owner.{Owner}
 use Rattle.ids.specs.declared.rights.Rights.{Rights}
 use Rattle.fuse.specs.declared.errno.Errno.TheVariants as errno
 use Rattle.fuse.specs.declared.request.Changes.{Changes}
+use Rattle.fuse.specs.declared.request.Whence.{Whence as Searched}
+use Rattle.fuse.specs.declared.request.Whence.TheVariants as whence
 use Rattle.course.specs.Rights.{permissions_in}
 use Rattle.course.specs.declared.made.Cut.{Cut}
 use Rattle.course.specs.declared.made.Cut.TheVariants as cut
@@ -88,9 +94,13 @@ creation owner flags mode how = record {
 
 -- ---- how names are moved, and bytes read and written
 
--- a move may replace nothing, by its flag 1, and there is no other flag
+-- a move may replace nothing, by its flag 1, and has no other flag
 abbrev pub absent_in : ℕ → Result Bool Failure
 absent_in flags = if nat_lt 1 flags then Err (error errno.EINVAL) else Ok (flags == 1)
+
+-- by its flag 2 alone a rename is an exchange
+abbrev pub is_exchange : ℕ → Bool
+is_exchange flags = flags == 2
 
 -- an offset as the kernel takes it
 abbrev pub offset_in : ℕ → Result ℤ Failure
@@ -105,3 +115,35 @@ offset_by flags offset =
 -- Set-user-ID and set-group-ID go first, where the flags of the write say so.
 abbrev pub drops : ℕ → Bool
 drops how = has_flag how 4
+
+-- ---- ranges of open files
+
+-- From where an offset is looked for. Linux knows the offset of an open file itself.
+abbrev pub whence_in : Searched → Result Whence Failure
+whence_in whence.Start = Ok ways.Set
+whence_in whence.Current = Err (error errno.EINVAL)
+whence_in whence.End = Ok ways.End
+whence_in whence.NextData = Ok ways.Data
+whence_in whence.NextHole = Ok ways.Hole
+
+-- Linux hands a negative offset on as it stands, from which there is nothing to find (tmpfs: ENXIO).
+abbrev pub looked_from : ℕ → Result ℤ Failure
+looked_from offset =
+    if nat_lt offset (2 ^ 63) then Ok (pos offset) else Err (error errno.ENXIO)
+
+-- What becomes of a range by the mode of fallocate: the file reaches to its end, its length stays (1),
+-- or the range is zeros (2, with 1 alone). There is no other mode (tmpfs: EOPNOTSUPP).
+abbrev pub space_by : ℕ → Result Space Failure
+space_by mode =
+    if mode == 0 then Ok space.Grow
+    else if mode == 1 then Ok space.Keep
+    else if mode == 3 then Ok space.Punch else Err (error errno.EOPNOTSUPP)
+
+-- a copy has no flags
+abbrev pub flagless : ℕ → Result (Unit {0}) Failure
+flagless flags = if flags == 0 then Ok tt else Err (error errno.EINVAL)
+
+-- whether two ranges of so many bytes overlap that begin at these places
+abbrev pub overlap : ℕ → ℕ → ℕ → Bool
+overlap first second count =
+    if nat_le first second then nat_lt (second - first) count else nat_lt (first - second) count

@@ -3,7 +3,7 @@ use Rattle.std.specs.Prelude.{ℕ, ◌+◌, ◌==◌, List, Bool, true, false, i
 use Rattle.model.specs.FiniteMap as map
 use Rattle.ids.specs.declared.aspect.Why.{Why}
 use Rattle.ids.specs.declared.reply.Stat.{Stat}
-use Rattle.nodes.specs.Tables.{detached, looked_up, made}
+use Rattle.nodes.specs.Tables.{detached, exchanged, looked_up, made}
 use Rattle.nodes.specs.Tables.{moved as renamed}
 use Rattle.course.specs.declared.made.Cut.{Cut}
 use Rattle.mount_tables.specs.Files.{counted}
@@ -13,8 +13,8 @@ use Rattle.view_times.specs.Known.{freed}
 use Rattle.view_times.specs.Known.{aborted as forgotten}
 use Rattle.mount_requests.specs.Found.{inode_of}
 use Rattle.mount_requests.specs.Seen.{Seen}
-use Rattle.mount_requests.specs.Times.{inode_named, of_cutting, of_linking, of_making, of_renaming}
-use Rattle.mount_requests.specs.Times.{of_removing, with_events}
+use Rattle.mount_requests.specs.Times.{inode_named, of_cutting, of_exchanging, of_linking, of_making}
+use Rattle.mount_requests.specs.Times.{of_removing, of_renaming, with_events}
 use Rattle.mount_requests.specs.Told.{named}
 
 -- ---- names
@@ -55,6 +55,15 @@ with_move s node name new_node new_name =
     (of_renaming (inode_named s node name) (inode_named s new_node new_name) (inode_of s node)
     (inode_of s new_node)) s) {
       nodes = renamed s.nodes (named node name) (named new_node new_name);
+    }
+
+-- or exchanged with another one
+abbrev pub with_exchange : Seen → ℕ → List ℕ → ℕ → List ℕ → Seen
+with_exchange s node name new_node new_name =
+    record (with_events node
+    (of_exchanging (inode_named s node name) (inode_named s new_node new_name)
+    (inode_of s node) (inode_of s new_node)) s) {
+      nodes = exchanged s.nodes (named node name) (named new_node new_name);
     }
 
 -- ---- open files

@@ -17,10 +17,10 @@ use Rattle.fuse.specs.declared.request.Whence.{Whence}
 use Rattle.machine.specs.Shown.{Shown}
 use Rattle.nodes.specs.Tables.{Table, is_current, looked_up, made}
 use Rattle.course.specs.Course.{Course, Give, ◌>>=◌}
-use Rattle.course.specs.Courses.{appending, closing_spare, creating_in, cutting, doing, dropping_if}
+use Rattle.course.specs.Courses.{appending, closing_spare, copying, creating_in, cutting, doing, dropping_if}
 use Rattle.course.specs.Courses.{finding, inside, linking, listing_at, making_directory}
 use Rattle.course.specs.Courses.{making_inside, making_link, making_node, moving, on_ok, opening_cut}
-use Rattle.course.specs.Courses.{reading, reading_link, stating, updating, writing}
+use Rattle.course.specs.Courses.{placing, reading, reading_link, stating, updating, writing}
 use Rattle.course.specs.declared.fault.Fault.{Fault}
 use Rattle.course.specs.declared.files.Made.{Made}
 use Rattle.course.specs.declared.made.Cut.{Cut}
@@ -29,23 +29,27 @@ use Rattle.mount_tables.specs.Folders.{Opened}
 use Rattle.mount_tables.specs.Numbers.{is_reserved}
 use Rattle.mount_tables.specs.declared.open_files.OpenFile.{OpenFile}
 use Rattle.mount_requests.specs.Answers.{Answers, AnswersIfRoom, Says}
-use Rattle.mount_requests.specs.Asked.{absent_in, creation, cut_by, drops, given, length_in, offset_by}
-use Rattle.mount_requests.specs.Asked.{offset_in, owner_by, permissions_by, special_in, update_of}
+use Rattle.mount_requests.specs.Asked.{absent_in, creation, cut_by, drops, flagless, given, is_exchange}
+use Rattle.mount_requests.specs.Asked.{length_in, looked_from, offset_by, offset_in, overlap, owner_by, permissions_by}
+use Rattle.mount_requests.specs.Asked.{space_by, special_in, update_of, whence_in}
 use Rattle.mount_requests.specs.Failures.{and_then, error, found_or}
-use Rattle.mount_requests.specs.Found.{file_by, folder_at, handle_at, handle_of, inode_of, located_child}
+use Rattle.mount_requests.specs.Found.{file_at, file_by, folder_at, handle_at, handle_of, inode_of, located_child}
 use Rattle.mount_requests.specs.Found.{located_made, located_new, located_own, object_of, once}
 use Rattle.mount_requests.specs.Found.{own_paths, paths_to, shown_names, stepper_at, twice}
 use Rattle.mount_requests.specs.Later.{opened_again, opened_first, with_creation, with_link}
-use Rattle.mount_requests.specs.Later.{with_look_up, with_made, with_move, without_name}
+use Rattle.mount_requests.specs.Later.{with_exchange, with_look_up, with_made, with_move, without_name}
 use Rattle.mount_requests.specs.Listed.{Lists}
 use Rattle.mount_requests.specs.Seen.{Seen}
-use Rattle.mount_requests.specs.Times.{of_cutting, of_setting, of_writing, times_at, times_if}
+use Rattle.mount_requests.specs.Times.{of_copying, of_cutting, of_setting, of_writing, times_at, times_if}
 use Rattle.mount_requests.specs.Times.{with_events, with_events_if}
 use Rattle.mount_requests.specs.Told.{ShowsAttributes, ShowsBytes, ShowsCount, ShowsCreated, ShowsEntry}
-use Rattle.mount_requests.specs.Told.{ShowsHandle, ShowsNothing, ShowsSought, named, sought}
+use Rattle.mount_requests.specs.Told.{ShowsHandle, ShowsNothing, ShowsPlace, named}
 use Rattle.mount_requests.specs.declared.changing.Setting.{Setting}
 use Rattle.mount_requests.specs.declared.failure.Failure.{Failure}
 use Rattle.mount_requests.specs.declared.files.Reading.{Reading}
+use Rattle.mount_requests.specs.declared.ranges.Allocating.{Allocating}
+use Rattle.mount_requests.specs.declared.ranges.Copying.{Copying}
+use Rattle.mount_requests.specs.declared.ranges.Seeking.{Seeking}
 use Rattle.mount_requests.specs.declared.files.Writing.{Writing}
 use Rattle.mount_requests.specs.declared.looking.Linked.{Linked}
 use Rattle.mount_requests.specs.declared.making.Linking.{Linking}
@@ -56,6 +60,7 @@ use Rattle.mount_requests.specs.declared.opening.Opening.TheVariants.{Again, Fir
 use Rattle.mount_requests.specs.declared.planning.LocatedName.{LocatedName}
 use Rattle.mount_requests.specs.declared.planning.NewName.{NewName}
 use Rattle.mount_requests.specs.declared.reading.Directory.{Directory}
+use Rattle.mount_requests.specs.declared.removing.Exchanging.{Exchanging}
 use Rattle.mount_requests.specs.declared.removing.Moving.{Moving}
 use Rattle.mount_requests.specs.declared.requests.Caller.{Caller}
 
@@ -217,11 +222,43 @@ abbrev pub moving_by : ℕ → Moving → Course (Result (Unit {0}) Fault)
 moving_by pid m =
     inside pid m.from.place (inside pid m.to.place (moving pid m.from.path m.to.path m.absent))
 
+abbrev pub AnswersMove : Seen → Seen → ℕ → ℕ → List ℕ → ℕ → List ℕ → ℕ → Shown → Shown
+    → Result Reply Failure → Type 0
+AnswersMove s later pid node name new_node new_name flags old new result =
+    Answers s later old new (moved s node name new_node new_name flags) (moving_by pid)
+    (λ m done known r. Says ShowsNothing r × (known ≡ with_move s node name new_node new_name)) result
+
+-- two names that change places, in one view
+abbrev pub swapped : Seen → ℕ → List ℕ → ℕ → List ℕ → Result Exchanging Failure
+swapped s node name new_node new_name = and_then (located_new s node name) (λ first.
+    and_then (located_new s new_node new_name) (λ second.
+    and_then (in_one_view first.view second.view) (λ one.
+    Ok (record { first = first; second = second }))))
+
+abbrev pub exchanging_by : ℕ → Exchanging → Course (Result (Unit {0}) Fault)
+exchanging_by pid e =
+    inside pid e.first.place (inside pid e.second.place
+    (doing pid (call.Exchange e.first.path e.second.path)))
+
+abbrev pub AnswersExchange : Seen → Seen → ℕ → ℕ → List ℕ → ℕ → List ℕ → Shown → Shown
+    → Result Reply Failure → Type 0
+AnswersExchange s later pid node name new_node new_name old new result =
+    Answers s later old new (swapped s node name new_node new_name) (exchanging_by pid)
+    (λ e done known r. Says ShowsNothing r × (known ≡ with_exchange s node name new_node new_name))
+    result
+
+-- By its flag 2 alone a rename is an exchange.
+abbrev pub AnswersRenameBy : Bool → Seen → Seen → ℕ → ℕ → List ℕ → ℕ → List ℕ → ℕ → Shown → Shown
+    → Result Reply Failure → Type 0
+AnswersRenameBy true s later pid node name new_node new_name flags old new result =
+    AnswersExchange s later pid node name new_node new_name old new result
+AnswersRenameBy false s later pid node name new_node new_name flags old new result =
+    AnswersMove s later pid node name new_node new_name flags old new result
+
 abbrev pub AnswersRename : Seen → Seen → ℕ → ℕ → List ℕ → ℕ → List ℕ → ℕ → Shown → Shown
     → Result Reply Failure → Type 0
 AnswersRename s later pid node name new_node new_name flags old new result =
-    Answers s later old new (moved s node name new_node new_name flags) (moving_by pid)
-    (λ m done known r. Says ShowsNothing r × (known ≡ with_move s node name new_node new_name)) result
+    AnswersRenameBy (is_exchange flags) s later pid node name new_node new_name flags old new result
 
 -- ---- opening
 
@@ -341,12 +378,83 @@ AnswersWrite s later pid node handle offset how flags bytes old new result =
     (λ w count known r. Says (ShowsCount count) r
     × (known ≡ with_events node (of_writing w.inode) s)) result
 
+-- ---- ranges of open files
+
+abbrev pub seeks : Seen → ℕ → ℕ → ℕ → Whence → Result Seeking Failure
+seeks s pid handle offset whence = and_then (file_by s pid handle) (λ file.
+    and_then (looked_from offset) (λ from. and_then (whence_in whence) (λ by.
+    Ok (record { fd = file.fd; offset = from; whence = by }))))
+
 abbrev pub AnswersSeek : Seen → Seen → ℕ → ℕ → ℕ → Whence → Shown → Shown → Result Reply Failure
     → Type 0
 AnswersSeek s later pid handle offset whence old new result =
-    Answers s later old new (file_by s pid handle)
-    (λ (file : OpenFile). stating pid (call.Fstat file.fd))
-    (λ file stat known r. ShowsSought (sought offset whence stat.size) r × (known ≡ s)) result
+    Answers s later old new (seeks s pid handle offset whence)
+    (λ p. placing pid p.fd p.offset p.whence)
+    (λ p place known r. Says (ShowsPlace place) r × (known ≡ s)) result
+
+abbrev pub allocates : Seen → ℕ → ℕ → ℕ → ℕ → ℕ → Result Allocating Failure
+allocates s pid handle offset length mode = and_then (file_by s pid handle) (λ file.
+    and_then (space_by mode) (λ space.
+    and_then (offset_in offset) (λ from. and_then (offset_in length) (λ count.
+    Ok (record {
+      inode = file.inode;
+      fd = file.fd;
+      offset = from;
+      length = count;
+      space = space;
+    })))))
+
+abbrev pub allocating : ℕ → Allocating → Course (Result (Unit {0}) Fault)
+allocating pid a = doing pid (call.Fallocate a.fd a.offset a.length a.space)
+
+-- Whatever becomes of the range, the file counts as written (tmpfs).
+abbrev pub AnswersFallocate : Seen → Seen → ℕ → ℕ → ℕ → ℕ → ℕ → ℕ → Shown → Shown
+    → Result Reply Failure → Type 0
+AnswersFallocate s later pid node handle offset length mode old new result =
+    Answers s later old new (allocates s pid handle offset length mode) (allocating pid)
+    (λ a done known r. Says ShowsNothing r × (known ≡ with_events node (of_writing a.inode) s)) result
+
+-- The file that bytes are copied into. Where another process has it open Linux copies them by reads and
+-- writes.
+abbrev pub if_same_process : ℕ → OpenFile → Result OpenFile Failure
+if_same_process pid file = if file.pid == pid then Ok file else Err (error errno.EXDEV)
+
+abbrev pub target_by : Seen → ℕ → ℕ → Result OpenFile Failure
+target_by s pid handle =
+    and_then (found_or errno.EBADF (file_at s handle)) (if_same_process pid)
+
+-- Ranges of one file do not overlap.
+abbrev pub apart_in : ℕ → ℕ → ℕ → ℕ → ℕ → Result (Unit {0}) Failure
+apart_in inode target offset place count =
+    if (inode == target) && overlap offset place count then Err (error errno.EINVAL) else Ok tt
+
+abbrev pub copies : Seen → ℕ → ℕ → ℕ → ℕ → ℕ → ℕ → ℕ → Result Copying Failure
+copies s pid handle offset to_handle to_offset length flags =
+    and_then (flagless flags) (λ none.
+    and_then (file_by s pid handle) (λ file.
+    and_then (target_by s pid to_handle) (λ target.
+    and_then (apart_in file.inode target.inode offset to_offset length) (λ apart.
+    and_then (offset_in offset) (λ from.
+    and_then (offset_in to_offset) (λ to.
+    Ok (record {
+      inode = target.inode;
+      from = file.fd;
+      count = min length MOST_MOVED;
+      offset = from;
+      to = target.fd;
+      place = to;
+    })))))))
+
+abbrev pub copying_by : ℕ → Copying → Course (Result ℕ Fault)
+copying_by pid c = copying pid c.from c.count c.offset c.to c.place
+
+abbrev pub AnswersCopy : Seen → Seen → ℕ → ℕ → ℕ → ℕ → ℕ → ℕ → ℕ → ℕ → Shown → Shown
+    → Result Reply Failure → Type 0
+AnswersCopy s later pid node handle offset to_handle to_offset length flags old new result =
+    Answers s later old new (copies s pid handle offset to_handle to_offset length flags)
+    (copying_by pid)
+    (λ c count known r. Says (ShowsCount count) r
+    × (known ≡ with_events node (of_copying count c.inode) s)) result
 
 -- ---- directories
 
@@ -436,6 +544,10 @@ IsOfFiles s later pid node (asked.Write handle offset how flags bytes) old new r
     AnswersWrite s later pid node handle offset how flags bytes old new r
 IsOfFiles s later pid node (asked.Lseek handle offset whence) old new r =
     AnswersSeek s later pid handle offset whence old new r
+IsOfFiles s later pid node (asked.Fallocate handle offset length mode) old new r =
+    AnswersFallocate s later pid node handle offset length mode old new r
+IsOfFiles s later pid node (asked.CopyFileRange handle offset to to_handle to_offset length flags)
+    old new r = AnswersCopy s later pid node handle offset to_handle to_offset length flags old new r
 IsOfFiles s later pid node _ old new r = Tells (Err (error errno.ENOSYS)) s later old new r
 
 -- or requests that change names

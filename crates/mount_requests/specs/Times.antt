@@ -48,6 +48,11 @@ of_removing lost directory = (directory, Modified) ∷ of_names lost
 abbrev pub of_moving : Option ℕ → ℕ → ℕ → Events
 of_moving moved from to = (from, Modified) ∷ (to, Modified) ∷ of_names moved
 
+-- of two objects that have other names than before
+abbrev pub of_both : Option ℕ → Option ℕ → Events
+of_both (Some inode) other = (inode, StatusChanged) ∷ of_names other
+of_both None other = of_names other
+
 -- whether two names gave one object
 abbrev pub gave_one : Option ℕ → Option ℕ → Bool
 gave_one (Some one) (Some other) = one == other
@@ -58,9 +63,21 @@ gave_one None there = false
 abbrev pub of_renaming : Option ℕ → Option ℕ → ℕ → ℕ → Events
 of_renaming moved there from to = if gave_one moved there then [] else of_moving moved from to
 
+-- the directories of two names that are exchanged, and what each gave
+abbrev pub of_swapping : Option ℕ → Option ℕ → ℕ → ℕ → Events
+of_swapping one other from to = (from, Modified) ∷ (to, Modified) ∷ of_both one other
+
+-- two names of one object stay, and nothing changes
+abbrev pub of_exchanging : Option ℕ → Option ℕ → ℕ → ℕ → Events
+of_exchanging one other from to = if gave_one one other then [] else of_swapping one other from to
+
 -- bytes that are written
 abbrev pub of_writing : ℕ → Events
 of_writing inode = (inode, Modified) ∷ []
+
+-- bytes that are copied, unless there are none
+abbrev pub of_copying : ℕ → ℕ → Events
+of_copying count inode = if count == 0 then [] else of_writing inode
 
 -- bytes that an open cuts
 abbrev pub of_cutting : Cut → ℕ → Events

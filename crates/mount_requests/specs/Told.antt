@@ -1,19 +1,13 @@
 -- What replies show of what the kernel answered.
-use Rattle.std.specs.Prelude.{◌≡◌, ℕ, ◌+◌, ◌-◌, ◌^◌, min, nat_lt}
-use Rattle.std.specs.Prelude.{List, Result, Ok, Err, if◌then◌else◌}
+use Rattle.std.specs.Prelude.{◌≡◌, ℕ, List}
 use Rattle.ids.specs.declared.reply.Stat.{Stat}
-use Rattle.fuse.specs.declared.errno.Errno.TheVariants as errno
 use Rattle.fuse.specs.declared.reply.Entry.{Entry}
 use Rattle.fuse.specs.declared.reply.Reply.{Reply}
 use Rattle.fuse.specs.declared.reply.Reply.TheVariants as reply
-use Rattle.fuse.specs.declared.request.Whence.{Whence}
-use Rattle.fuse.specs.declared.request.Whence.TheVariants as whence
 use Rattle.nodes.specs.Tables.{Table, number_for}
 use Rattle.nodes.specs.declared.directory_entry.DirectoryEntry.{DirectoryEntry}
 use Rattle.mount_tables.specs.Attributes.{IsLike}
 use Rattle.view_times.specs.declared.times.Times.{Times}
-use Rattle.mount_requests.specs.Failures.{error}
-use Rattle.mount_requests.specs.declared.failure.Failure.{Failure}
 
 abbrev pub named : ℕ → List ℕ → DirectoryEntry
 named parent name = record { parent = parent; name = name }
@@ -54,20 +48,7 @@ ShowsCreated t p stat times handle (reply.Created entry opened) =
     IsEntry t p stat times entry × (opened.handle ≡ handle)
 ShowsCreated t p stat times handle _ = ⊥
 
--- The offset that is looked for in a file of this length, which has no holes.
-abbrev pub within : ℕ → ℕ → ℕ → Result ℕ Failure
-within offset size found =
-    if nat_lt offset size then Ok found else Err (error errno.ENXIO)
-
-abbrev pub sought : ℕ → Whence → ℕ → Result ℕ Failure
-sought offset whence.Start size = Ok offset
-sought offset whence.Current size = Err (error errno.EINVAL)
-sought offset whence.End size = Ok (min (size + offset) (2 ^ 64 - 1))
-sought offset whence.NextData size = within offset size offset
-sought offset whence.NextHole size = within offset size size
-
--- it is told, or why there is none
-abbrev pub ShowsSought : Result ℕ Failure → Result Reply Failure → Type 0
-ShowsSought (Ok offset) (Ok (reply.Lseek found)) = found ≡ offset
-ShowsSought (Ok offset) _ = ⊥
-ShowsSought (Err e) r = r ≡ Err e
+-- an offset that was found
+abbrev pub ShowsPlace : ℕ → Reply → Type 0
+ShowsPlace place (reply.Lseek found) = found ≡ place
+ShowsPlace place _ = ⊥

@@ -4,16 +4,15 @@ ghost use Rattle.course.specs.Course.{Ran};
 ghost use Rattle.course.specs.Hands.{bound};
 ghost use Rattle.mount_requests.specs.Answers.{IsPlanned};
 ghost use Rattle.mount_requests.specs.Asked.{drops, offset_by, offset_in};
-ghost use Rattle.mount_requests.specs.Requests.{AnswersRead, AnswersSeek, AnswersWrite, put_by, reads};
-ghost use Rattle.mount_requests.specs.Requests.{writes, written_by};
+ghost use Rattle.mount_requests.specs.Requests.{AnswersRead, AnswersWrite, put_by, reads, writes};
+ghost use Rattle.mount_requests.specs.Requests.{written_by};
 ghost use Rattle.mount_requests.specs.Seen.{seen};
-ghost use Rattle.mount_requests.specs.Told.{ShowsSought, sought};
 
 use crate::failure::Failure;
 use crate::tables::Tables;
-use course::{Fault, Hand, append, drop_if, stat_file, write};
+use course::{Fault, Hand, append, drop_if, write};
 use fuse::bits::{OPEN_APPEND, WRITE_DROPS_SET_IDS};
-use fuse::{Errno, Reply, Whence};
+use fuse::{Errno, Reply};
 use ids::{Bytes, Fd, MOST_MOVED, Num, Pid};
 use machine::Machine;
 use mount_tables::OpenFile;
@@ -35,7 +34,7 @@ pub(crate) struct Writing {
 }
 
 // An offset as the kernel takes it.
-fn offset_in(offset: u64) -> Result<i64, Failure>
+pub(crate) fn offset_in(offset: u64) -> Result<i64, Failure>
     ensures { result ≡ offset_in offset }
 {
     match i64::try_from(offset) {
@@ -53,39 +52,6 @@ fn offset_by(open_flags: u32, offset: u64) -> Result<Option<i64>, Failure>
     }
     let offset = offset_in(offset)?;
     Ok(Some(offset))
-}
-
-// The offset that is looked for in a file of this length, which has no holes.
-fn sought(offset: u64, whence: Whence, size: u64) -> Result<u64, Failure>
-    ensures { result ≡ sought offset whence size }
-{
-    match whence {
-        Whence::Start => Ok(offset),
-        Whence::Current => Err(Failure::Error(Errno::EINVAL)),
-        Whence::End => Ok(size.saturating_add(offset)),
-        Whence::NextData => {
-            if offset < size {
-                Ok(offset)
-            } else {
-                Err(Failure::Error(Errno::ENXIO))
-            }
-        }
-        Whence::NextHole => {
-            if offset < size {
-                Ok(size)
-            } else {
-                Err(Failure::Error(Errno::ENXIO))
-            }
-        }
-    }
-}
-
-// It is told, or why there is none.
-fn sought_in(offset: u64, whence: Whence, size: u64) -> Result<Reply, Failure>
-    ensures { ShowsSought (sought offset whence size) result }
-{
-    let offset = sought(offset, whence, size)?;
-    Ok(Reply::Lseek { offset })
 }
 
 // Whether set-user-ID and set-group-ID go with a write.
@@ -189,22 +155,5 @@ impl Tables {
         let size = put_dropping(hand, writing, drops(write_flags), bytes)?;
         self.note_written(node, inode);
         Ok(Reply::Written { size })
-    }
-
-    // Finds an offset of an open file, by its length.
-    pub(crate) fn seek<K: Machine>(
-        &mut self,
-        hand: &mut Hand<K>,
-        handle: u64,
-        offset: u64,
-        whence: Whence,
-    ) -> Result<Reply, Failure>
-        ensures bound { bound hand.new ≡ bound hand.old }
-        ensures answers { AnswersSeek (seen self.old) (seen self.new) hand.old.pid handle offset whence
-            hand.old.shown hand.new.shown result }
-    {
-        let file = self.open_file(handle, hand.pid())?;
-        let stat = stat_file(hand, file.fd)?;
-        sought_in(offset, whence, u64::from(stat.size))
     }
 }

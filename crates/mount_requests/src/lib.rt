@@ -14,6 +14,7 @@ mod looking;
 mod making;
 mod opening;
 mod planning;
+mod ranges;
 mod reading;
 mod removing;
 mod requests;

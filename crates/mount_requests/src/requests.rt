@@ -92,7 +92,7 @@ impl Tables {
                 new_parent,
                 new_name,
                 flags,
-            } => self.move_name(hand, node, &name, new_parent, &new_name, flags),
+            } => self.rename(hand, node, &name, new_parent, &new_name, flags),
             operation => self.answer_of_files(hand, node, operation),
         }
     }
@@ -128,6 +128,23 @@ impl Tables {
                 offset,
                 whence,
             } => self.seek(hand, handle, offset, whence),
+            Operation::Fallocate {
+                handle,
+                offset,
+                length,
+                mode,
+            } => self.fallocate(hand, node, handle, offset, length, mode),
+            Operation::CopyFileRange {
+                handle,
+                offset,
+                to_node: _,
+                to_handle,
+                to_offset,
+                length,
+                flags,
+            } => self.copy(
+                hand, node, handle, offset, to_handle, to_offset, length, flags,
+            ),
             _ => Err(Failure::Error(Errno::ENOSYS)),
         }
     }

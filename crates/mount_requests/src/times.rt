@@ -6,9 +6,10 @@ ghost use Rattle.view_times.specs.Known.{noted_by};
 ghost use Rattle.mount_requests.specs.Found.{inode_of};
 ghost use Rattle.mount_requests.specs.Later.{with_aborted};
 ghost use Rattle.mount_requests.specs.Seen.{seen};
-ghost use Rattle.mount_requests.specs.Times.{at_time, inode_named, of_changes, of_cutting};
-ghost use Rattle.mount_requests.specs.Times.{of_linking, of_making, of_moving, of_removing, of_renaming, of_setting};
-ghost use Rattle.mount_requests.specs.Times.{gave_one};
+ghost use Rattle.mount_requests.specs.Times.{at_time, gave_one, inode_named, of_both, of_changes};
+ghost use Rattle.mount_requests.specs.Times.{of_copying, of_cutting, of_exchanging, of_linking};
+ghost use Rattle.mount_requests.specs.Times.{of_making, of_moving, of_removing, of_renaming};
+ghost use Rattle.mount_requests.specs.Times.{of_setting, of_swapping};
 ghost use Rattle.mount_requests.specs.Times.{of_writing, time_in, times_at, times_if, view_at};
 ghost use Rattle.mount_requests.specs.Times.{noted_in, of_names, with_events, with_events_if};
 
@@ -22,7 +23,7 @@ use std::alloc::AllocError;
 use view_times::{Event, Times, later};
 
 // How many events a request notes, at most.
-const MOST_EVENTS: usize = 3;
+const MOST_EVENTS: usize = 4;
 
 // A time that is set.
 fn time_in(now: Time, change: TimeChange) -> Time
@@ -60,6 +61,16 @@ fn event_of(changes: &Changes, now: Time) -> Event
     }
 }
 
+// Whether both are known, and are one object.
+fn gave_one(one: Option<Num>, other: Option<Num>) -> bool
+    ensures { result ≡ gave_one one other }
+{
+    match (one, other) {
+        (Some(one), Some(other)) => one == other,
+        _ => false,
+    }
+}
+
 impl Tables {
     /// The next request is served at this time, or at that of the one before, where that was later.
     pub fn set_time(&mut self, now: Time)
@@ -90,7 +101,7 @@ impl Tables {
     // Makes room for what a request about a node notes.
     pub(crate) fn reserve_events(&mut self, node: u64) -> Result<(), AllocError>
         ensures seen { seen self.new ≡ seen self.old }
-        ensures events { OnOk result (3 ≤ room_of self.new.times (view_at (seen self.old) node)) }
+        ensures events { OnOk result (4 ≤ room_of self.new.times (view_at (seen self.old) node)) }
         ensures nodes { self.new.nodes ≡ self.old.nodes }
         ensures files { self.new.files ≡ self.old.files }
     {
@@ -200,19 +211,59 @@ impl Tables {
         self.note_name(view, moved);
     }
 
-    // Whether two names gave one object when they were looked up last.
-    fn gave_one(&self, one: &DirectoryEntry, other: &DirectoryEntry) -> bool
-        ensures { result ≡ gave_one
-            (inode_named (seen self.now) one.now.parent one.now.name)
-            (inode_named (seen self.now) other.now.parent other.now.name) }
+    // Two objects have other names than before, if they are known.
+    fn note_both(&mut self, view: u64, one: Option<Num>, other: Option<Num>)
+        requires { 2 ≤ room_of self.old.times view }
+        ensures seen { seen self.new ≡ noted_in view (of_both one other) (seen self.old) }
+        ensures nodes { self.new.nodes ≡ self.old.nodes }
+        ensures files { self.new.files ≡ self.old.files }
     {
-        let Some(inode) = self.inode_named(one) else {
-            return false;
-        };
-        let Some(there) = self.inode_named(other) else {
-            return false;
-        };
-        inode == there
+        match one {
+            Some(first) => {
+                self.note(view, first, Event::StatusChanged);
+                self.note_name(view, other);
+            }
+            None => self.note_name(view, other),
+        }
+    }
+
+    // Two names of different objects change places.
+    fn note_swapping(&mut self, first: &DirectoryEntry, second: &DirectoryEntry)
+        requires { 4 ≤ room_of self.old.times (view_at (seen self.old) first.now.parent) }
+        ensures seen { seen self.new ≡ with_events first.now.parent
+            (of_swapping (inode_named (seen self.old) first.now.parent first.now.name)
+            (inode_named (seen self.old) second.now.parent second.now.name)
+            (inode_of (seen self.old) first.now.parent) (inode_of (seen self.old) second.now.parent))
+            (seen self.old) }
+        ensures nodes { self.new.nodes ≡ self.old.nodes }
+        ensures files { self.new.files ≡ self.old.files }
+    {
+        let view = self.view_at(first.parent);
+        let one = self.inode_named(first);
+        let other = self.inode_named(second);
+        let from = self.inode_of(first.parent);
+        let to = self.inode_of(second.parent);
+        self.note(view, from, Event::Modified);
+        self.note(view, to, Event::Modified);
+        self.note_both(view, one, other);
+    }
+
+    // Two names change places: nothing is noted where both gave one object.
+    pub(crate) fn note_exchanging(&mut self, first: &DirectoryEntry, second: &DirectoryEntry)
+        requires { 4 ≤ room_of self.old.times (view_at (seen self.old) first.now.parent) }
+        ensures seen { seen self.new ≡ with_events first.now.parent
+            (of_exchanging (inode_named (seen self.old) first.now.parent first.now.name)
+            (inode_named (seen self.old) second.now.parent second.now.name)
+            (inode_of (seen self.old) first.now.parent) (inode_of (seen self.old) second.now.parent))
+            (seen self.old) }
+        ensures nodes { self.new.nodes ≡ self.old.nodes }
+        ensures files { self.new.files ≡ self.old.files }
+    {
+        let one = self.inode_named(first);
+        let other = self.inode_named(second);
+        if !gave_one(one, other) {
+            self.note_swapping(first, second);
+        }
     }
 
     // A name is moved to another one: nothing is noted where both gave one object.
@@ -226,7 +277,9 @@ impl Tables {
         ensures nodes { self.new.nodes ≡ self.old.nodes }
         ensures files { self.new.files ≡ self.old.files }
     {
-        if !self.gave_one(entry, new) {
+        let moved = self.inode_named(entry);
+        let there = self.inode_named(new);
+        if !gave_one(moved, there) {
             self.note_going(entry, new.parent);
         }
     }
@@ -240,6 +293,18 @@ impl Tables {
     {
         let view = self.view_at(node);
         self.note(view, inode, Event::Modified);
+    }
+
+    // So many were copied into it.
+    pub(crate) fn note_copied(&mut self, node: u64, inode: Num, count: u32)
+        requires { 1 ≤ room_of self.old.times (view_at (seen self.old) node) }
+        ensures seen { seen self.new ≡ with_events node (of_copying count inode) (seen self.old) }
+        ensures nodes { self.new.nodes ≡ self.old.nodes }
+        ensures files { self.new.files ≡ self.old.files }
+    {
+        if count > 0 {
+            self.note_written(node, inode);
+        }
     }
 
     // They went, where an open has cut it.

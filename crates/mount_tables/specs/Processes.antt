@@ -5,7 +5,6 @@ use Rattle.std.proofs.Common.{inl, inr}
 use Rattle.std.specs.Coded.{Coded, code_by, coded×, coded⊎, coded_ℕ}
 use Rattle.std.specs.Ordering.{nat_cmp}
 use Rattle.model.specs.FiniteMap as map
-use Rattle.ids.specs.declared.limits.TheConstants.{DESCRIPTORS}
 use Rattle.mount_tables.specs.declared.processes.Role.{Role}
 use Rattle.mount_tables.specs.declared.processes.Role.TheVariants.{Idle, Holder, Of}
 use Rattle.mount_tables.specs.declared.processes.Wanted.{Wanted}
@@ -53,15 +52,16 @@ let_go pid (Some (Idle level)) roles = roles
 let_go pid (Some (Of view)) roles = roles
 let_go pid None roles = roles
 
--- a process of the plain tree has a descriptor free
-abbrev pub HasFree : Option Role → Type 0
-HasFree role = (used : ℕ) × (role ≡ Some (Holder used)) × (used < DESCRIPTORS)
+-- a process of the plain tree has a descriptor free, where each may have so many
+abbrev pub HasFree : ℕ → Option Role → Type 0
+HasFree most role = (used : ℕ) × (role ≡ Some (Holder used)) × (used < most)
 
--- what a process is looked for: to wait for a transaction of a priority, or to open a file
+-- what a process is looked for: to wait for a transaction of a priority, or to open a file where each
+-- may have so many descriptors
 abbrev pub fits : Role → Wanted → Bool
 fits (Idle level) (Waiting wanted) = level == wanted
-fits (Holder used) Holding = nat_lt used DESCRIPTORS
-fits (Idle level) Holding = false
+fits (Holder used) (Holding most) = nat_lt used most
+fits (Idle level) (Holding most) = false
 fits (Holder used) (Waiting wanted) = false
 fits (Of view) wanted = false
 

@@ -35,6 +35,8 @@ pub struct Processes {
     idle: Vec<Hints, Heap>,
     // Those of the plain tree that have a descriptor free.
     free: Hints,
+    // How many descriptors a process may have, as one with a free one was last looked for.
+    most: usize,
 }
 
 impl Drop for Processes {
@@ -44,6 +46,7 @@ impl Drop for Processes {
             roles: _,
             idle: _,
             free: _,
+            most: _,
         } = self;
     }
 }
@@ -74,8 +77,8 @@ pub fn first_process(level: u8) -> Pid
 enum Wanted {
     // To wait for a transaction of this priority.
     Waiting(u8),
-    // To open a file of the plain tree.
-    Holding,
+    // To open a file of the plain tree, where a process may have so many descriptors.
+    Holding(usize),
 }
 
 fn fits(role: Role, wanted: Wanted) -> bool
@@ -83,7 +86,7 @@ fn fits(role: Role, wanted: Wanted) -> bool
 {
     match (role, wanted) {
         (Role::Idle(level), Wanted::Waiting(sought)) => level == sought,
-        (Role::Holder(used), Wanted::Holding) => used < DESCRIPTORS,
+        (Role::Holder(used), Wanted::Holding(most)) => used < most,
         _ => false,
     }
 }
@@ -151,11 +154,7 @@ fn note(idle: &mut Vec<Hints, Heap>, free: &mut Hints, pid: Pid, role: Role) {
                 hints.push(pid);
             }
         }
-        Role::Holder(used) => {
-            if used < DESCRIPTORS {
-                free.push(pid);
-            }
-        }
+        Role::Holder(_) => free.push(pid),
         Role::Of(_) => {}
     }
 }
@@ -197,6 +196,7 @@ impl Processes {
             roles: ByNumber::new(heap),
             idle: Vec::new(heap),
             free: Hints::new(heap),
+            most: DESCRIPTORS,
         }
     }
 
@@ -256,13 +256,14 @@ impl Processes {
         next_fit(hints, &self.roles, Wanted::Waiting(level))
     }
 
-    /// A process of the plain tree that has a descriptor free.
-    pub fn free_holder(&mut self) -> Option<Pid>
-        ensures found { IfSome result (λ pid. HasFree (map.get self.old.roles pid)) }
+    /// A process of the plain tree that has a descriptor free, where each may have so many.
+    pub fn free_holder(&mut self, most: usize) -> Option<Pid>
+        ensures found { IfSome result (λ pid. HasFree most (map.get self.old.roles pid)) }
         ensures roles { self.new.roles ≡ self.old.roles }
         ensures room { self.new.room ≡ self.old.room }
     {
-        next_fit(&mut self.free, &self.roles, Wanted::Holding)
+        self.most = most;
+        next_fit(&mut self.free, &self.roles, Wanted::Holding(most))
     }
 
     /// A process of the plain tree has one file more open. It takes no memory.
@@ -275,7 +276,7 @@ impl Processes {
         };
         let more = used.saturating_add(1);
         self.roles.set(u64::from(pid.0), Role::Holder(more));
-        if more >= DESCRIPTORS {
+        if more >= self.most {
             self.free.forget(pid);
         }
     }
@@ -290,7 +291,7 @@ impl Processes {
         };
         let fewer = used.saturating_sub(1);
         self.roles.set(u64::from(pid.0), Role::Holder(fewer));
-        if used >= DESCRIPTORS && fewer < DESCRIPTORS {
+        if used >= self.most && fewer < self.most {
             self.free.push(pid);
         }
     }

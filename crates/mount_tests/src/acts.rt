@@ -4,23 +4,28 @@ ghost use Rattle.std.specs.Prelude.{◌≡◌};
 
 use crate::texts::{Text, owned};
 use course::{
-    Again, Cut, Fault, Hand, Made, Object, Paths, Place, Twice, Update, append, apply_update,
-    begin, close, close_spare, create_cut, cut_if, drop_if, end, find, fork, give_up, link, list,
-    list_at, look_nowhere, look_up, make_directory, make_link, make_node, move_name, open_cut,
-    permissions_in, read, read_link, remove_directory, stat_file, unlink, write,
+    Again, Cut, Fault, Hand, Made, Object, Paths, Place, Twice, Update, allocate, append,
+    apply_update, begin, close, close_spare, copy, create_cut, cut_if, drop_if, end, exchange,
+    find, fork, give_up, link, list, list_at, look_nowhere, look_up, make_directory, make_link,
+    make_node, move_name, open_cut, permissions_in, read, read_link, remove_directory, seek,
+    stat_file, unlink, write,
 };
 use heap::Heap;
-use ids::{Fd, Kind, NewOwner, Num, Owner, Rights, Special, Stat};
+use ids::{Fd, Kind, NewOwner, Num, Owner, Rights, Space, Special, Stat, Whence};
 use machine::Machine;
 use std::fmt::Debug;
 use std::process::Abort;
 
 #[derive(Clone, Copy)]
 pub(crate) enum Act {
+    // A range is punched.
+    Allocate,
     Append,
     Begin,
     Close,
     CloseSpare,
+    // Into the file itself, behind its end.
+    Copy,
     // The file is cut, where it is there.
     CreateCut,
     // It has to be a new one.
@@ -30,6 +35,7 @@ pub(crate) enum Act {
     CutIf,
     DropIf,
     End,
+    Exchange,
     // By the path, and by the descriptor, where the path leads elsewhere.
     Find,
     FindOpen,
@@ -57,6 +63,8 @@ pub(crate) enum Act {
     // By the path, and by the descriptor.
     Resize,
     ResizeOpen,
+    // The next hole.
+    Seek,
     StatFile,
     Unlink,
     // The length, the owner and the permissions: by the path, and by the descriptor.
@@ -201,13 +209,16 @@ fn on_file<K: Machine>(
     inode: Num,
 ) -> Outcome {
     match act {
+        Act::Allocate => told(rt, heap, allocate(hand, Fd(0), 1, 3, Space::Punch)),
         Act::Append => told(rt, heap, append(hand, Fd(0), owned(rt, heap, "more"))),
         Act::Close => told(rt, heap, close(hand, Fd(0))),
         Act::CloseSpare => told(rt, heap, seen_made(close_spare(hand, true, spare(inode)))),
+        Act::Copy => told(rt, heap, copy(hand, heap, Fd(0), 100, 1, Fd(0), 9)),
         Act::CutDropping => told(rt, heap, cut_if(hand, Fd(0), Cut::Dropping)),
         Act::CutIf => told(rt, heap, cut_if(hand, Fd(0), Cut::Plain)),
         Act::DropIf => told(rt, heap, drop_if(hand, Fd(0), true)),
         Act::Read => told(rt, heap, read(hand, heap, Fd(0), 100, 1)),
+        Act::Seek => told(rt, heap, seek(hand, Fd(0), 1, Whence::Hole)),
         Act::StatFile => told(rt, heap, seen(stat_file(hand, Fd(0)))),
         _ => told(rt, heap, write(hand, Fd(0), owned(rt, heap, "other"), 2)),
     }
@@ -280,6 +291,7 @@ fn on_paths<K: Machine>(
     let from = twice(rt, heap, "/a");
     let to = twice(rt, heap, "/b");
     match act {
+        Act::Exchange => told(rt, heap, exchange(hand, None, from.first, None, to.first)),
         Act::Link => told(rt, heap, seen(link(hand, from, inode, None, to))),
         Act::Move => told(
             rt,
@@ -352,13 +364,16 @@ pub(crate) fn act_on<K: Machine>(
 ) -> Outcome {
     heap.refuse(request);
     match act {
-        Act::Append
+        Act::Allocate
+        | Act::Append
         | Act::Close
         | Act::CloseSpare
+        | Act::Copy
         | Act::CutDropping
         | Act::CutIf
         | Act::DropIf
         | Act::Read
+        | Act::Seek
         | Act::StatFile
         | Act::Write => on_file(rt, heap, hand, act, inode),
         Act::CreateCut | Act::CreateNew | Act::MakeFile | Act::OpenCut | Act::OpenOther => {
@@ -371,7 +386,9 @@ pub(crate) fn act_on<K: Machine>(
         | Act::RemoveDirectory
         | Act::LookUp
         | Act::Unlink => on_path(rt, heap, hand, act),
-        Act::Link | Act::Move | Act::MoveIfAbsent => on_paths(rt, heap, hand, act, inode),
+        Act::Exchange | Act::Link | Act::Move | Act::MoveIfAbsent => {
+            on_paths(rt, heap, hand, act, inode)
+        }
         Act::Find
         | Act::FindOpen
         | Act::ListAt

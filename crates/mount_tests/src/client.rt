@@ -1,6 +1,8 @@
 // Requests on a server, by lines of words: a verb, a path, and what else the verb wants.
 use crate::texts::{Text, owned, told};
-use fuse::bits::{MODE_PIPE, OPEN_APPEND, OPEN_EXCLUSIVE, OPEN_TRUNCATE, RENAME_NO_REPLACE};
+use fuse::bits::{
+    MODE_PIPE, OPEN_APPEND, OPEN_EXCLUSIVE, OPEN_TRUNCATE, RENAME_EXCHANGE, RENAME_NO_REPLACE,
+};
 use fuse::{Changes, Operation, Reply, Request, Time, Whence};
 use heap::Heap;
 use ids::{Bytes, Limits};
@@ -187,7 +189,11 @@ fn of_name(verb: &str, name: Bytes) -> Operation {
 }
 
 fn moving(verb: &str, name: Bytes, new_parent: u64, new_name: Bytes) -> Operation {
-    let flags = if verb == "move" { RENAME_NO_REPLACE } else { 0 };
+    let flags = match verb {
+        "move" => RENAME_NO_REPLACE,
+        "exchange" => RENAME_EXCHANGE,
+        _ => 0,
+    };
     Operation::Rename {
         name,
         new_parent,
@@ -229,6 +235,16 @@ fn setting(verb: &str, number: &str) -> Operation {
     }
 }
 
+// What becomes of a range that reaches behind the end.
+fn ranging(handle: u64, mode: u32) -> Operation {
+    Operation::Fallocate {
+        handle,
+        offset: 2,
+        length: 3000,
+        mode,
+    }
+}
+
 // What is asked of an open file, or of a directory.
 fn of_open(verb: &str, file: u64, folder: u64) -> Operation {
     match verb {
@@ -242,6 +258,22 @@ fn of_open(verb: &str, file: u64, folder: u64) -> Operation {
             handle: file,
             offset: 0,
             whence: Whence::End,
+        },
+        "data" => Operation::Lseek {
+            handle: file,
+            offset: 0,
+            whence: Whence::NextData,
+        },
+        "grow" => ranging(file, 0),
+        "punch" => ranging(file, 3),
+        "copy" => Operation::CopyFileRange {
+            handle: file,
+            offset: 0,
+            to_node: ROOT,
+            to_handle: file,
+            to_offset: 3000,
+            length: 100,
+            flags: 0,
         },
         "flush" => Operation::Flush { handle: file },
         "release" => Operation::Release {
@@ -331,7 +363,7 @@ fn on_names<K: Machine>(rt: &impl Abort, client: &mut Client<K>, line: Line<'_>)
 // What a line asks. Its paths are looked up.
 fn asked_by<K: Machine>(rt: &impl Abort, client: &mut Client<K>, line: Line<'_>) -> Asked {
     match line.verb {
-        "link" | "rename" | "move" => on_names(rt, client, line),
+        "link" | "rename" | "move" | "exchange" => on_names(rt, client, line),
         "symlink" => symlink(rt, client, line),
         "lookup"
         | "mkdir"

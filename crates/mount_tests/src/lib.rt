@@ -24,6 +24,8 @@ mod of_plain_names;
 #[cfg(test)]
 mod of_session;
 #[cfg(test)]
+mod of_space;
+#[cfg(test)]
 mod of_transactions;
 #[cfg(test)]
 mod of_view_files;

@@ -3,7 +3,66 @@ use crate::acts::Act;
 use crate::courses::{Course, check_courses};
 use kernel::Kernel;
 
-static FILES: [Course; 16] = [
+static FILES: [Course; 22] = [
+    Course {
+        act: Act::Allocate,
+        before: "1 open /a RDWR,CREAT
+1 write 0 first",
+        whole: "1 fallocate 0 1 3 PUNCH",
+        told: None,
+        refused: &[""],
+    },
+    Course {
+        act: Act::Copy,
+        before: "1 open /a RDWR,CREAT
+1 write 0 first",
+        whole: "1 pread 0 100 1
+1 pwrite 0 irst 9",
+        told: None,
+        refused: &["", "1 pread 0 100 1"],
+    },
+    Course {
+        act: Act::Seek,
+        before: "1 open /a RDWR,CREAT
+1 write 0 first",
+        whole: "1 lseek 0 1 HOLE",
+        told: None,
+        refused: &[""],
+    },
+    Course {
+        act: Act::Allocate,
+        before: "1 open /a RDWR,CREAT
+1 write 0 first
+1 close 0
+1 begin
+1 open /a RDWR",
+        whole: "1 fallocate 0 1 3 PUNCH",
+        told: None,
+        refused: &[""],
+    },
+    Course {
+        act: Act::Copy,
+        before: "1 open /a RDWR,CREAT
+1 write 0 first
+1 close 0
+1 begin
+1 open /a RDWR",
+        whole: "1 pread 0 100 1
+1 pwrite 0 irst 9",
+        told: None,
+        refused: &["", "1 pread 0 100 1"],
+    },
+    Course {
+        act: Act::Seek,
+        before: "1 open /a RDWR,CREAT
+1 write 0 first
+1 close 0
+1 begin
+1 open /a RDWR",
+        whole: "1 lseek 0 1 HOLE",
+        told: None,
+        refused: &[""],
+    },
     Course {
         act: Act::Append,
         before: "1 open /a RDWR,CREAT

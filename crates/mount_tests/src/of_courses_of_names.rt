@@ -3,7 +3,7 @@ use crate::acts::Act;
 use crate::courses::{Course, check_courses};
 use kernel::Kernel;
 
-static NAMES: [Course; 22] = [
+static NAMES: [Course; 24] = [
     Course {
         act: Act::Link,
         before: "1 open /a RDWR,CREAT
@@ -204,6 +204,27 @@ static NAMES: [Course; 22] = [
 1 close 0
 1 begin",
         whole: "1 rename /a /b",
+        told: None,
+        refused: &[""],
+    },
+    Course {
+        act: Act::Exchange,
+        before: "1 open /a RDWR,CREAT
+1 write 0 first
+1 close 0
+1 mkdir /b",
+        whole: "1 exchange /a /b",
+        told: None,
+        refused: &[""],
+    },
+    Course {
+        act: Act::Exchange,
+        before: "1 open /a RDWR,CREAT
+1 write 0 first
+1 close 0
+1 mkdir /b
+1 begin",
+        whole: "1 exchange /a /b",
         told: None,
         refused: &[""],
     },

@@ -267,7 +267,7 @@ static PROCESSES: [Course; 8] = [
     Course {
         act: Act::LookNowhere,
         before: "1 begin",
-        whole: "1 fstat 64",
+        whole: "1 fstat 1048576",
         told: None,
         refused: &[],
     },
@@ -281,7 +281,7 @@ static PROCESSES: [Course; 8] = [
 1 pwrite 0 x 0
 2 open /a RDWR
 2 pwrite 0 y 0",
-        whole: "1 fstat 64",
+        whole: "1 fstat 1048576",
         told: None,
         refused: &[],
     },

@@ -70,7 +70,7 @@ write /a first",
     },
 ];
 
-static FILES: [Row; 14] = [
+static FILES: [Row; 18] = [
     Row {
         before: "create /a
 write /a first",
@@ -93,7 +93,31 @@ write /a first",
         before: "create /a
 write /a first",
         ask: "seek /a",
-        is_refused: false,
+        is_refused: true,
+    },
+    Row {
+        before: "create /a
+write /a first",
+        ask: "data /a",
+        is_refused: true,
+    },
+    Row {
+        before: "create /a
+write /a first",
+        ask: "grow /a",
+        is_refused: true,
+    },
+    Row {
+        before: "create /a
+write /a first",
+        ask: "punch /a",
+        is_refused: true,
+    },
+    Row {
+        before: "create /a
+write /a first",
+        ask: "copy /a",
+        is_refused: true,
     },
     Row {
         before: "create /a

@@ -80,7 +80,7 @@ static NAMES: [Row; 15] = [
     },
 ];
 
-static MOVES: [Row; 12] = [
+static MOVES: [Row; 15] = [
     Row {
         before: "mkdir /a
 create /a/b",
@@ -148,6 +148,26 @@ mknod /a/b",
         before: "symlink /a target
 mknod /b",
         ask: "rename /a /b",
+        is_refused: true,
+    },
+    Row {
+        before: "create /a
+write /a first
+mkdir /b",
+        ask: "exchange /a /b",
+        is_refused: true,
+    },
+    Row {
+        before: "mkdir /a
+mknod /a/b
+mknod /b",
+        ask: "exchange /a/b /b",
+        is_refused: true,
+    },
+    Row {
+        before: "mknod /a
+link /a /b",
+        ask: "exchange /a /b",
         is_refused: true,
     },
     Row {

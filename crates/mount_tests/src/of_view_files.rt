@@ -73,7 +73,7 @@ write /.tx/v/a first",
     },
 ];
 
-static FILES: [Row; 10] = [
+static FILES: [Row; 14] = [
     Row {
         before: "mkdir /.tx/v
 create /.tx/v/a
@@ -100,6 +100,34 @@ write /.tx/v/a first",
 create /.tx/v/a
 write /.tx/v/a first",
         ask: "seek /.tx/v/a",
+        is_refused: true,
+    },
+    Row {
+        before: "mkdir /.tx/v
+create /.tx/v/a
+write /.tx/v/a first",
+        ask: "data /.tx/v/a",
+        is_refused: true,
+    },
+    Row {
+        before: "mkdir /.tx/v
+create /.tx/v/a
+write /.tx/v/a first",
+        ask: "grow /.tx/v/a",
+        is_refused: true,
+    },
+    Row {
+        before: "mkdir /.tx/v
+create /.tx/v/a
+write /.tx/v/a first",
+        ask: "punch /.tx/v/a",
+        is_refused: true,
+    },
+    Row {
+        before: "mkdir /.tx/v
+create /.tx/v/a
+write /.tx/v/a first",
+        ask: "copy /.tx/v/a",
         is_refused: true,
     },
     Row {

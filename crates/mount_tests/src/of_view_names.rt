@@ -72,7 +72,7 @@ symlink /.tx/v/a b",
     },
 ];
 
-static MOVES: [Row; 9] = [
+static MOVES: [Row; 10] = [
     Row {
         before: "mkdir /.tx/v
 mkdir /.tx/v/a
@@ -130,6 +130,14 @@ write /.tx/v/a first
 create /.tx/v/b
 write /.tx/v/b second",
         ask: "move /.tx/v/a /.tx/v/b",
+        is_refused: true,
+    },
+    Row {
+        before: "mkdir /.tx/v
+create /.tx/v/a
+write /.tx/v/a first
+mkdir /.tx/v/b",
+        ask: "exchange /.tx/v/a /.tx/v/b",
         is_refused: true,
     },
     Row {

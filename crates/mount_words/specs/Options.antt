@@ -5,11 +5,11 @@ use Rattle.std.specs.Str.Parse.{ParsesUnsigned}
 use Rattle.std.specs.declared.num.ParseIntError.{ParseIntError}
 use Rattle.clap.specs.Words.{App, Rule, Text, IsAmong, fault_of, kind_of, matches_of, new_app, new_rule, one_of, with_rule}
 use Rattle.clap.specs.declared.builder.ArgAction.TheVariants.{Set}
-use Rattle.clap.specs.declared.builder.value_parser.ValueParser.TheVariants.{Signed}
+use Rattle.clap.specs.declared.builder.value_parser.ValueParser.TheVariants.{Signed, Unsigned}
 use Rattle.clap.specs.declared.error.Error.{Error}
 use Rattle.clap.specs.declared.error.kind.ErrorKind.TheVariants.{DisplayHelp, OutOfMemory}
 use Rattle.ids.specs.declared.limits.Limits.{Limits}
-use Rattle.mount_words.specs.declared.TheConstants.{DEFAULT_LIMIT, MAX_FILE_LIMIT, MAX_LIMIT}
+use Rattle.mount_words.specs.declared.TheConstants.{DEFAULT_LIMIT, MAX_BYTES, MAX_FILE_LIMIT, MAX_LIMIT, MOUNT_DESCRIPTORS, MOUNT_PATH_LIMIT}
 use Rattle.mount_words.specs.declared.CommandLineFault.{CommandLineFault}
 use Rattle.mount_words.specs.declared.CommandLineFault.TheVariants.{NotUtf8, Help, Usage, NoMemory}
 
@@ -29,22 +29,37 @@ file_limit_rule = record (new_rule (codes "file_limit")) {
   value_names = 1;
 }
 
--- `txfs [--limit N] [--file-limit N]`
-abbrev pub txfs : App
-txfs = with_rule (with_rule (new_app (codes "txfs")) limit_rule) file_limit_rule
+abbrev pub bytes_rule : Rule
+bytes_rule = record (new_rule (codes "bytes")) {
+  long = Some (codes "bytes");
+  action = Some Set;
+  parser = Some (Unsigned 0 MAX_BYTES);
+  value_names = 1;
+}
 
--- the number that the text reads as, at most `most`; the default where there is none
-abbrev pub IsLimit : (default most : ℕ) → Option Text → ℕ → Type 0
-IsLimit default most None limit = limit ≡ default
-IsLimit default most (Some text) limit =
+-- `txfs [--limit N] [--file-limit N] [--bytes N]`
+abbrev pub txfs : App
+txfs = with_rule (with_rule (with_rule (new_app (codes "txfs")) limit_rule) file_limit_rule) bytes_rule
+
+-- the number of so many bits that the text reads as, at most `most`; the default where there is none
+abbrev pub IsMost : (bits default most : ℕ) → Option Text → ℕ → Type 0
+IsMost bits default most None limit = limit ≡ default
+IsMost bits default most (Some text) limit =
     (read : Result ℕ ParseIntError)
-    × ParsesUnsigned 32 10 text read
+    × ParsesUnsigned bits 10 text read
     × (limit ≡ min (result_unwrap_or read default) most)
 
--- the limits that the options' texts give
+-- the same of a number of 32 bits
+abbrev pub IsLimit : (default most : ℕ) → Option Text → ℕ → Type 0
+IsLimit default most text limit = IsMost 32 default most text limit
+
+-- the limits that the options' texts give. No option gives the descriptors of a process, or the bytes of a
+-- path.
 pub record AreLimits (number : Text → Option Text) (limits : Limits) : Type 0 where
   pub entries : IsLimit DEFAULT_LIMIT MAX_LIMIT (number (codes "limit")) limits.entries
   pub files : IsLimit MAX_FILE_LIMIT MAX_FILE_LIMIT (number (codes "file_limit")) limits.file_bytes
+  pub descriptors : limits.descriptors ≡ MOUNT_DESCRIPTORS
+  pub paths : limits.path_bytes ≡ MOUNT_PATH_LIMIT
 
 -- the text that is read as a number in a command's matches of these words
 abbrev pub number_in : List Text → Text → Option Text

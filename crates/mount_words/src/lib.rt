@@ -1,13 +1,15 @@
-//! The command line of `txfs`: `txfs [--limit N] [--file-limit N]`.
+//! The command line of `txfs`: `txfs [--limit N] [--file-limit N] [--bytes N]`.
 #![tactic(auto)]
 
-ghost use Rattle.std.specs.Prelude.{◌≡◌, ◌≤◌, [], false, map, string_bytes, IfErr, IfOk};
+ghost use Rattle.std.specs.Prelude.{◌≡◌, ◌≤◌, [], codes, false, map, string_bytes, IfErr, IfOk};
 ghost use Rattle.clap.specs.Words.{app_of, fault_of, found_of, one_text, rule_of};
 ghost use Rattle.ids.specs.declared.limits.TheConstants.{LARGEST_FILE, MAX_ENTRIES};
-ghost use Rattle.mount_words.specs.Options.{AreLimits, IsFaultOf, IsLimit, IsReportedAs};
-ghost use Rattle.mount_words.specs.Options.{SameMatches, file_limit_rule, limit_rule, number_in};
-ghost use Rattle.mount_words.specs.Options.{status_of, txfs};
+ghost use Rattle.mount_words.specs.Options.{AreLimits, IsFaultOf, IsLimit, IsMost, IsReportedAs};
+ghost use Rattle.mount_words.specs.Options.{SameMatches, bytes_rule, file_limit_rule, limit_rule};
+ghost use Rattle.mount_words.specs.Options.{number_in, status_of, txfs};
+ghost use Rattle.mount_words.specs.declared.TheConstants.{DEFAULT_BYTES, MAX_BYTES};
 
+use clap::builder::ValueParser;
 use clap::error::ErrorKind;
 use clap::{Arg, ArgAction, ArgMatches, Command, Error};
 use ids::Limits;
@@ -23,6 +25,29 @@ pub const MAX_LIMIT: u32 = 1_048_576;
 
 /// The most bytes that a file may have: the largest value of `--file-limit`, and where it is not given.
 pub const MAX_FILE_LIMIT: u32 = 2_147_483_647;
+
+/// How many descriptors each process of the mount's kernel may have: a process of the plain tree has so
+/// many files open at most, and so has a transaction.
+pub const MOUNT_DESCRIPTORS: u32 = 65_536;
+
+/// The most bytes of a path of the mount's kernel, as on Linux.
+pub const MOUNT_PATH_LIMIT: u32 = 4_096;
+
+/// How many bytes the whole tree may take where `--bytes` is not given: more than a machine has.
+pub const DEFAULT_BYTES: u64 = 1_099_511_627_776;
+
+/// The most bytes that it may take: the largest value of `--bytes`.
+pub const MAX_BYTES: u64 = 1_125_899_906_842_624;
+
+/// What a command line asks for.
+#[derive(Debug, Clone, Copy)]
+pub struct Settings {
+    /// How many entries the history keeps, how many bytes a file and a path have, and how many
+    /// descriptors a process, at most.
+    pub limits: Limits,
+    /// How many bytes all that is kept takes, at most.
+    pub bytes: u64,
+}
 
 /// Why a command line gives no limits.
 #[derive(Debug, Fault)]
@@ -82,7 +107,7 @@ impl CommandLineFault {
     }
 }
 
-const USAGE: &str = "txfs [--limit <N>] [--file-limit <N>]";
+const USAGE: &str = "txfs [--limit <N>] [--file-limit <N>] [--bytes <N>]";
 
 const ABOUT: &str =
     "Serves a FUSE session on standard input and output, on a kernel with transactions.";
@@ -113,13 +138,27 @@ fn file_limit_arg<'a>(alloc: Global) -> Arg<'a>
         .value_parser(clap::value_parser!(u32).range(0..=MAX_FILE_LIMIT as i64))
 }
 
+// `--bytes N`
+fn bytes_arg<'a>(alloc: Global) -> Arg<'a>
+    ensures rule { rule_of result ≡ bytes_rule }
+    ensures local { result.global ≡ false }
+{
+    Arg::new(alloc, "bytes")
+        .long("bytes")
+        .value_name("N")
+        .help("The most bytes that the tree takes in memory; 1099511627776 where it is not given")
+        .action(ArgAction::Set)
+        .value_parser(ValueParser::unsigned(0, MAX_BYTES))
+}
+
 // The command that the words are read by.
 fn command<'a>(alloc: Global) -> Result<Command<'a>, AllocError>
     ensures { IfOk result (λ command. app_of command ≡ txfs) }
 {
     let with_limit = Command::new(alloc, "txfs").arg(limit_arg(alloc))?;
     let with_file_limit = with_limit.arg(file_limit_arg(alloc))?;
-    Ok(with_file_limit.override_usage(USAGE).about(ABOUT))
+    let with_bytes = with_file_limit.arg(bytes_arg(alloc))?;
+    Ok(with_bytes.override_usage(USAGE).about(ABOUT))
 }
 
 // The fault that clap's error is reported as. Its own want of memory is refused memory.
@@ -171,21 +210,40 @@ fn limits_of(matches: &ArgMatches) -> Limits
     Limits {
         entries: limit_of(matches, "limit", DEFAULT_LIMIT, MAX_LIMIT) as usize,
         file_bytes: limit_of(matches, "file_limit", MAX_FILE_LIMIT, MAX_FILE_LIMIT),
+        descriptors: MOUNT_DESCRIPTORS,
+        path_bytes: MOUNT_PATH_LIMIT,
     }
 }
 
-/// The limits that a command line gives. The first word is the program's name. clap takes its memory from `alloc`.
+// How many bytes the matches give the tree. The command has refused a number above the most, as above.
+fn bytes_of(matches: &ArgMatches) -> u64
+    ensures { IsMost 64 DEFAULT_BYTES MAX_BYTES (one_text (found_of matches.now) (codes "bytes"))
+        result }
+{
+    match matches.get_one::<u64>("bytes") {
+        Some(bytes) => bytes.min(MAX_BYTES),
+        None => DEFAULT_BYTES,
+    }
+}
+
+/// What a command line asks for. The first word is the program's name. clap takes its memory from `alloc`.
 ///
-/// Words that fit the usage give the numbers behind the options, and the defaults where an option is not given. Other words give
-/// `Help`, where help is asked for first, or else `Usage`, in clap's own words. `NoMemory` may come in place of each, where memory
-/// was refused. `NotUtf8` never comes, since the words are UTF-8 here.
-pub fn read_limits(alloc: Global, words: &[String]) -> Result<Limits, CommandLineFault>
-    ensures limits { IfOk result (AreLimits (number_in (map string_bytes words.now))) }
+/// Words that fit the usage give the numbers behind the options, and the defaults where an option is not given. No option gives the
+/// descriptors of a process and the bytes of a path: they are the same for each mount. Other words give `Help`, where help is asked
+/// for first, or else `Usage`, in clap's own words. `NoMemory` may come in place of each, where memory was refused. `NotUtf8` never
+/// comes, since the words are UTF-8 here.
+pub fn read_settings(alloc: Global, words: &[String]) -> Result<Settings, CommandLineFault>
+    ensures limits { IfOk result (λ s. AreLimits (number_in (map string_bytes words.now)) s.limits) }
+    ensures bytes { IfOk result (λ s. IsMost 64 DEFAULT_BYTES MAX_BYTES
+        (number_in (map string_bytes words.now) (codes "bytes")) s.bytes) }
     ensures fits { IfOk result (λ _. fault_of txfs (map string_bytes words.now) ≡ []) }
     ensures fault { IfErr result (IsFaultOf (map string_bytes words.now)) }
-    ensures entries { IfOk result (λ l. l.entries ≤ MAX_ENTRIES) }
-    ensures files { IfOk result (λ l. l.file_bytes ≤ LARGEST_FILE) }
+    ensures entries { IfOk result (λ s. s.limits.entries ≤ MAX_ENTRIES) }
+    ensures files { IfOk result (λ s. s.limits.file_bytes ≤ LARGEST_FILE) }
 {
     let matches = matches_for(alloc, words)?;
-    Ok(limits_of(&matches))
+    Ok(Settings {
+        limits: limits_of(&matches),
+        bytes: bytes_of(&matches),
+    })
 }

@@ -1,5 +1,5 @@
 -- What a request about a node below a view does to times is seen in no other view.
-use Rattle.std.proofs.Common.{◌≡◌, ◌≢◌, ◌⊎◌, inl, inr, ℕ, Bool, true, false, List, [], ◌∷◌, Option, Some, None, refl, sym, ap, subst, ◌∙◌, ne_eqb}
+use Rattle.std.proofs.Common.{◌≡◌, ◌≢◌, ◌⊎◌, inl, inr, ℕ, Bool, true, false, List, [], ◌∷◌, Option, Some, refl, sym, ap, subst, ◌∙◌, ne_eqb}
 use Rattle.std.specs.Prelude.{Result, Ok, Err, ◌==◌}
 use Rattle.fuse.specs.declared.forgets.Forget.{Forget}
 use Rattle.fuse.specs.declared.reply.Reply.{Reply}
@@ -10,7 +10,7 @@ use Rattle.nodes.specs.Tables.{root_of}
 use Rattle.mount_tables.specs.Numbers.{class_of, view_of}
 use Rattle.mount_tables.specs.declared.numbers.Class.{Class}
 use Rattle.mount_tables.specs.declared.numbers.Class.TheVariants.{Tree, Transactions, Control}
-use Rattle.view_times.specs.Known.{Known, times_of}
+use Rattle.view_times.specs.Known.{times_of}
 use Rattle.view_times.specs.Known.{aborted as forgotten}
 use Rattle.view_times.proofs.Calls.{stays}
 use Rattle.mount_requests.specs.Apart.{AreApart, IsUnknownIn}
@@ -22,7 +22,8 @@ use Rattle.mount_requests.specs.declared.failure.Failure.TheVariants as failure
 use Rattle.mount_requests.specs.declared.requests.Caller.{Caller}
 use Rattle.mount_requests.specs.declared.tables.Stepper.{Stepper}
 use Rattle.mount_requests.proofs.Apart.{answered_apart, apart_is, apart_same}
-use Rattle.mounted.specs.Served.{IsServed, IsToldOf, Serves, ServesAt, ServesBy, ServesIn, noted, with_forget, with_forgets}
+use Rattle.mounted.specs.Served.{IsServed, IsToldOf, Serves, ServesAt, ServesBy, ServesIn, ServesRoom, noted, with_forget, with_forgets}
+use Rattle.mounted.specs.Served.ServesRoom.{HasRoom, IsFull, IsShort}
 use Rattle.mounted.specs.Steppers.{TimesStayInView, is_release}
 use Rattle.mounted.proofs.Viewing.{steps_at}
 
@@ -57,8 +58,13 @@ module _ (s later : Seen) (who : Caller) (operation : Operation) (old new : Show
       let same = (steps_at s who.node view st is live m).here in
       in_apart (st.view == 0) st r (ap (λ (v : ℕ). v == 0) same ∙ ne_eqb view 0 live) same h
 
+  room_apart : (r : Result Reply Failure) → ServesRoom s later who operation old new r → AreApart s later view
+  room_apart r (IsFull needs told) = apart_is s view told.2
+  room_apart r (IsShort outcome needs want served is) = by_apart (stepper_at s who.node) outcome refl served
+  room_apart r (HasRoom served) = by_apart (stepper_at s who.node) r refl served
+
   at_apart : (c : Class) (r : Result Reply Failure) → class_of who.node ≡ c → class_of who.node ≡ Tree → ServesAt c s later who operation old new r → AreApart s later view
-  at_apart Tree r e tree h = by_apart (stepper_at s who.node) r refl h
+  at_apart Tree r e tree h = room_apart r h
   at_apart Transactions r e tree h = absurd cc
   at_apart (Control ended) r e tree h = absurd cc
 
@@ -95,6 +101,8 @@ module _ (s later : Seen) (who : Caller) (old new : Shown) (view : ℕ) (tree : 
   serves_apart (asked.Read a b d e) r not h = at_apart s later who (asked.Read a b d e) old new view is live (class_of who.node) r refl tree h
   serves_apart (asked.Write a b d e f) r not h = at_apart s later who (asked.Write a b d e f) old new view is live (class_of who.node) r refl tree h
   serves_apart (asked.Lseek a b d) r not h = at_apart s later who (asked.Lseek a b d) old new view is live (class_of who.node) r refl tree h
+  serves_apart (asked.Fallocate a b d e) r not h = at_apart s later who (asked.Fallocate a b d e) old new view is live (class_of who.node) r refl tree h
+  serves_apart (asked.CopyFileRange a b d e f i j) r not h = at_apart s later who (asked.CopyFileRange a b d e f i j) old new view is live (class_of who.node) r refl tree h
   serves_apart (asked.Other a) r not h = at_apart s later who (asked.Other a) old new view is live (class_of who.node) r refl tree h
   serves_apart (asked.Forget a) r not h = at_apart s later who (asked.Forget a) old new view is live (class_of who.node) r refl tree h
   serves_apart (asked.BatchForget a) r not h = at_apart s later who (asked.BatchForget a) old new view is live (class_of who.node) r refl tree h
@@ -123,6 +131,8 @@ module _ (s later : Seen) (who : Caller) (old new : Shown) (view : ℕ) (tree : 
   told_apart (asked.Read a b d e) answer not h = serves_apart (asked.Read a b d e) h.outcome not h.serves
   told_apart (asked.Write a b d e f) answer not h = serves_apart (asked.Write a b d e f) h.outcome not h.serves
   told_apart (asked.Lseek a b d) answer not h = serves_apart (asked.Lseek a b d) h.outcome not h.serves
+  told_apart (asked.Fallocate a b d e) answer not h = serves_apart (asked.Fallocate a b d e) h.outcome not h.serves
+  told_apart (asked.CopyFileRange a b d e f i j) answer not h = serves_apart (asked.CopyFileRange a b d e f i j) h.outcome not h.serves
   told_apart (asked.Other a) answer not h = serves_apart (asked.Other a) h.outcome not h.serves
   told_apart (asked.Init a b d e) answer not h = serves_apart (asked.Init a b d e) h.outcome not h.serves
   told_apart asked.Destroy answer not h = serves_apart asked.Destroy h.outcome not h.serves

@@ -1,5 +1,5 @@
 -- Which process serves a request of the plain tree.
-use Rattle.std.proofs.Common.{◌≡◌, ℕ, inl, inr, refl, sym, ap, subst, ◌∙◌}
+use Rattle.std.proofs.Common.{◌≡◌, ℕ, ◌<◌, inl, inr, refl, sym, ap, subst, ◌∙◌}
 use Rattle.std.specs.Prelude.{Option, Some, None, IfSome, IsErrAnd, Result, Ok, Err}
 use Rattle.model.specs.FiniteMap as map
 use Rattle.fuse.specs.declared.reply.Reply.{Reply}
@@ -10,7 +10,7 @@ use Rattle.mount_requests.specs.Requests.{IsAnswered}
 use Rattle.mount_requests.specs.Seen.{Seen}
 use Rattle.mount_requests.specs.declared.failure.Failure.{Failure}
 use Rattle.mount_requests.specs.declared.requests.Caller.{Caller}
-use Rattle.mounted.specs.Served.{IsHolder, IsLacking, IsReady, ServesPlain, chosen}
+use Rattle.mounted.specs.Served.{IsHolder, IsLacking, IsReady, ServesPlain, chosen, most_descriptors}
 use Rattle.mounted.specs.Served.IsHolder.{Free}
 use Rattle.mounted.specs.Served.ServesPlain.{Lacking, Ready, Refused}
 use Rattle.mounted.proofs.Sound.{Roles}
@@ -19,10 +19,10 @@ pub same_roles : (s : Seen) {roles : Roles} → roles ≡ s.roles → record s {
 same_roles s e = ap (λ (r : Roles). record s { roles = r }) e
 
 -- a process that has a descriptor free
-pub free_holder_is : (s : Seen) (pid : ℕ) {later : Seen} {roles : Roles} {found : Option ℕ} {v : Shown} → IfSome found (λ p. HasFree (map.get roles p)) → found ≡ Some pid → roles ≡ s.roles → later ≡ s → IsHolder s v pid later v
-free_holder_is s pid {later} {roles} {found} {v} h is same known =
-    let free = subst (λ (o : Option ℕ). IfSome o (λ p. HasFree (map.get roles p))) is h in
-    Free free.0 (sym (ap (λ (r : Roles). map.get r pid) same) ∙ free.1) free.2 known refl
+pub free_holder_is : (s : Seen) (pid : ℕ) {later : Seen} {roles : Roles} {found : Option ℕ} {v : Shown} {most : ℕ} → most ≡ most_descriptors v.log → IfSome found (λ p. HasFree most (map.get roles p)) → found ≡ Some pid → roles ≡ s.roles → later ≡ s → IsHolder s v pid later v
+free_holder_is s pid {later} {roles} {found} {v} {most} own h is same known =
+    let free = subst (λ (o : Option ℕ). IfSome o (λ p. HasFree most (map.get roles p))) is h in
+    Free free.0 (sym (ap (λ (r : Roles). map.get r pid) same) ∙ free.1) (subst (λ (n : ℕ). free.0 < n) own free.2) known refl
 
 is_err : {A : Type 0} (r : Result A Failure) {e : Failure} → IsErrAnd r (λ y. y ≡ e) → r ≡ Err e
 is_err (Err y) h = ap Err h

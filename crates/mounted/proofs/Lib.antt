@@ -15,3 +15,4 @@ mod Asking
 mod Outcomes
 mod Apart
 mod Setting
+mod Room

@@ -1,5 +1,5 @@
 -- A time that is set changes nothing of what is said of views.
-use Rattle.std.proofs.Common.{◌≡◌, ◌≢◌, ◌⊎◌, inl, inr, ℕ, List, subst}
+use Rattle.std.proofs.Common.{◌≡◌, ◌⊎◌, inl, inr, ℕ, List, subst}
 use Rattle.fuse.specs.declared.request.Time.{Time}
 use Rattle.ids.specs.declared.entry.Entry.{Entry}
 use Rattle.course.specs.Hands.{IsSince}

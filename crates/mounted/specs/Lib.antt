@@ -1,5 +1,6 @@
 pub mod Controls
 pub mod First
+pub mod Room
 pub mod Served
 pub mod Server
 pub mod Sound

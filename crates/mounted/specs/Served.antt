@@ -1,5 +1,5 @@
 -- How each request is served: by which process, and what is known then.
-use Rattle.std.specs.Prelude.{◌≡◌, ◌⊎◌, ℕ, ◌==◌, ◌<◌, ◌^◌, ◌&&◌, nat_lt, length, Bool, true, false}
+use Rattle.std.specs.Prelude.{◌≡◌, ◌⊎◌, ℕ, ◌==◌, ◌<◌, ◌^◌, ◌&&◌, min, nat_lt, length, Bool, true, false}
 use Rattle.std.specs.Prelude.{Option, Some, None}
 use Rattle.std.specs.Prelude.{option_map, option_and_then, Result, Ok, Err, if◌then◌else◌, List, [], ◌∷◌}
 use Rattle.model.specs.FiniteMap as map
@@ -11,6 +11,7 @@ use Rattle.fuse.specs.declared.reply.Reply.{Reply}
 use Rattle.fuse.specs.declared.reply.Reply.TheVariants as reply
 use Rattle.fuse.specs.declared.request.Operation.{Operation}
 use Rattle.fuse.specs.declared.request.Operation.TheVariants as asked
+use Rattle.history.specs.Log.{Log}
 use Rattle.machine.specs.Shown.{Shown}
 use Rattle.machine.specs.Steps.{forgetting}
 use Rattle.nodes.specs.Tables.{forgotten}
@@ -40,6 +41,8 @@ use Rattle.mount_requests.specs.declared.failure.Failure.TheVariants as failure
 use Rattle.mount_requests.specs.declared.requests.Caller.{Caller}
 use Rattle.mount_requests.specs.declared.tables.Stepper.{Stepper}
 use Rattle.mounted.specs.Controls.{ServesControl, ServesTransactions}
+use Rattle.mounted.specs.Room.{is_want, needs_room, status_of}
+use Rattle.mounted.specs.declared.starting.Space.{Space}
 
 -- ---- the plain tree
 
@@ -69,12 +72,20 @@ chosen s node (asked.SetAttr changes) = Some (process_by s (plain_file s node))
 chosen s node (asked.Read handle offset size flags) = Some (process_by s (file_at s handle))
 chosen s node (asked.Write handle offset how flags bytes) = Some (process_by s (file_at s handle))
 chosen s node (asked.Lseek handle offset whence) = Some (process_by s (file_at s handle))
+chosen s node (asked.Fallocate handle offset length mode) =
+    Some (process_by s (file_at s handle))
+chosen s node (asked.CopyFileRange handle offset to to_handle to_offset length flags) =
+    Some (process_by s (file_at s handle))
 chosen s node _ = Some 1
+
+-- how many descriptors a process of the kernel may have
+abbrev pub most_descriptors : Log → ℕ
+most_descriptors log = min log.bounds.descriptors DESCRIPTORS
 
 -- A process was there that holds files of the plain tree and has a descriptor free, or the first one
 -- made one.
 pub data IsHolder (s : Seen) (old : Shown) (pid : ℕ) (known : Seen) (new : Shown) : Type 0 where
-  Free : (used : ℕ) → map.get s.roles pid ≡ Some (Holder used) → used < DESCRIPTORS → known ≡ s
+  Free : (used : ℕ) → map.get s.roles pid ≡ Some (Holder used) → used < most_descriptors old.log → known ≡ s
       → new ≡ old → IsHolder s old pid known new
   Made : Ran old (forking 1) (Ok pid) new → IsChild old 1 pid new
       → known ≡ record s { roles = map.insert s.roles pid (Holder 0) } → IsHolder s old pid known new
@@ -140,9 +151,27 @@ ServesTree s later who operation old new r =
 
 -- ---- requests about nodes
 
+-- the reply to an outcome
+abbrev pub told : Result Reply Failure → Reply
+told (Ok r) = r
+told (Err (failure.Error e)) = reply.Error e
+told (Err (failure.Aborted why)) = reply.Error errno.ECANCELED
+
+-- Where the tree is full a request by which it grows is refused before its first step, and nothing else is
+-- known then. Where memory is refused to it later, and that was for the limit, ENOSPC is told in the place of
+-- ENOMEM. What is held is of no definition, so each may come at any time.
+pub data ServesRoom (s later : Seen) (who : Caller) (operation : Operation) (old new : Shown)
+    (r : Result Reply Failure) : Type 0 where
+  IsFull : needs_room operation ≡ true → Tells (Err (error errno.ENOSPC)) s later old new r
+      → ServesRoom s later who operation old new r
+  IsShort : (outcome : Result Reply Failure) → needs_room operation ≡ true → is_want (told outcome) ≡ true
+      → ServesTree s later who operation old new outcome → r ≡ Err (error errno.ENOSPC)
+      → ServesRoom s later who operation old new r
+  HasRoom : ServesTree s later who operation old new r → ServesRoom s later who operation old new r
+
 abbrev pub ServesAt : Class → Seen → Seen → Caller → Operation → Shown → Shown → Result Reply Failure
     → Type 0
-ServesAt Tree s later who operation old new r = ServesTree s later who operation old new r
+ServesAt Tree s later who operation old new r = ServesRoom s later who operation old new r
 ServesAt Transactions s later who operation old new r =
     ServesTransactions s later operation old new r
 ServesAt (Control view) s later who operation old new r =
@@ -239,14 +268,14 @@ with_forgets s (f ∷ fs) = with_forgets (with_forget s f.node f.lookups) fs
 abbrev pub without_folder : Seen → ℕ → Seen
 without_folder s handle = record s { folders = map.remove s.folders handle }
 
--- A reply of one kind, whatever it tells: how a session begins, and what the whole tree is like.
+-- A reply of one kind, whatever it tells: how a session begins.
 abbrev pub IsBeginning : Result Reply Failure → Type 0
 IsBeginning (Ok (reply.Init init)) = Unit {0}
 IsBeginning _ = ⊥
 
+-- What the whole tree is like: all numbers follow from three, which no definition knows.
 abbrev pub IsStatus : Result Reply Failure → Type 0
-IsStatus (Ok (reply.StatFs status)) = Unit {0}
-IsStatus _ = ⊥
+IsStatus r = (space : Space) × (r ≡ Ok (reply.StatFs (status_of space)))
 
 -- Requests that are about no node make no step; a release may close a file.
 abbrev pub Serves : Seen → Seen → Caller → Operation → Shown → Shown → Result Reply Failure → Type 0
@@ -260,12 +289,6 @@ Serves s later who (asked.Release handle flags) old new r = Releases s later han
 Serves s later who (asked.ReleaseDir handle) old new r =
     Tells (Ok reply.Empty) (without_folder s handle) later old new r
 Serves s later who operation old new r = ServesAt (class_of who.node) s later who operation old new r
-
--- the reply to an outcome
-abbrev pub told : Result Reply Failure → Reply
-told (Ok r) = r
-told (Err (failure.Error e)) = reply.Error e
-told (Err (failure.Aborted why)) = reply.Error errno.ECANCELED
 
 -- What is told of an outcome by which a request was served.
 pub record ToldBy (Served : Result Reply Failure → Type 0) (answer : Reply) : Type 0 where

@@ -7,14 +7,14 @@ ghost use Rattle.course.specs.Hands.{IsChild, Stand};
 ghost use Rattle.mount_requests.specs.Seen.{seen};
 ghost use Rattle.mounted.specs.Controls.{IsTaken, with_roles};
 ghost use Rattle.mounted.specs.Served.{IsHolder, IsLacking, IsReady, Lacks, chosen, is_holder};
-ghost use Rattle.mounted.specs.Served.{plain_file, process_by};
+ghost use Rattle.mounted.specs.Served.{most_descriptors, plain_file, process_by};
 ghost use Rattle.mounted.specs.Server.{HasGrown};
 ghost use Rattle.mounted.specs.Sound.{IsFor, RolesStaySound, StaysSound};
 
 use crate::serving::Serving;
-use course::fork;
+use course::{Hand, fork};
 use fuse::Operation;
-use ids::Pid;
+use ids::{DESCRIPTORS, Pid};
 use machine::Machine;
 use mount_requests::{Failure, Tables};
 use mount_tables::{OpenFile, PLAIN, Role, first_process};
@@ -98,9 +98,31 @@ fn chosen(tables: &Tables, node: u64, operation: &Operation) -> Option<Pid>
             handle,
             offset: _,
             whence: _,
+        }
+        | Operation::Fallocate {
+            handle,
+            offset: _,
+            length: _,
+            mode: _,
+        }
+        | Operation::CopyFileRange {
+            handle,
+            offset: _,
+            to_node: _,
+            to_handle: _,
+            to_offset: _,
+            length: _,
+            flags: _,
         } => Some(process_by(tables, tables.files.get(*handle))),
         _ => Some(first_process(0)),
     }
+}
+
+// How many descriptors a process of a kernel may have.
+fn most_descriptors<K: Machine>(hand: &Hand<K>) -> usize
+    ensures { result ≡ most_descriptors hand.now.shown.log }
+{
+    (hand.history().bounds().descriptors as usize).min(DESCRIPTORS)
 }
 
 impl<K: Machine> Serving<K> {
@@ -149,7 +171,8 @@ impl<K: Machine> Serving<K> {
             (seen self.new.tables) self.new.hand.shown }
     {
         self.tables.processes.reserve()?;
-        match self.tables.processes.free_holder() {
+        let most = most_descriptors(&self.hand);
+        match self.tables.processes.free_holder(most) {
             Some(pid) => Ok(pid),
             None => self.make_process(0, Role::Holder(0)),
         }

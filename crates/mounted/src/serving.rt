@@ -1,19 +1,20 @@
 // A request is served, by what its node is.
-ghost use Rattle.std.specs.Prelude.{◌≡◌, false, is_some};
+ghost use Rattle.std.specs.Prelude.{◌≡◌, false, is_some, true};
 ghost use Rattle.machine.specs.Shown.{Kept, limit_of, setup_of};
 ghost use Rattle.history_laws.specs.Headline.{IsSerializable};
 ghost use Rattle.course.specs.Hands.{IsSince, Stand};
 ghost use Rattle.fuse.specs.Operations.{is_answered};
 ghost use Rattle.mount_tables.specs.Numbers.{class_of};
 ghost use Rattle.mount_requests.specs.Seen.{IsUnknown, seen};
-ghost use Rattle.mounted.specs.Served.{IsServed, IsToldOf, Serves, ServesAt, ServesPlain, ServesTree};
-ghost use Rattle.mounted.specs.Served.{ToldBy};
+ghost use Rattle.mounted.specs.Room.{is_want, needs_room};
+ghost use Rattle.mounted.specs.Served.{IsServed, IsToldOf, Serves, ServesAt, ServesPlain, ServesRoom};
+ghost use Rattle.mounted.specs.Served.{ServesTree, ToldBy};
 ghost use Rattle.mounted.specs.Served.{ServesView, noted, told, with_forgets};
 ghost use Rattle.mounted.specs.Server.{HasGrown};
 ghost use Rattle.mounted.specs.Sound.{StaysSound};
 ghost use Rattle.mounted.specs.Steppers.{StaysInView, is_release};
 
-use crate::starting::{start, status};
+use crate::starting::{Space, start, status};
 use course::Hand;
 use fuse::{Errno, Forgets, Operation, Reply};
 use heap::Heap;
@@ -31,6 +32,74 @@ impl<K: Machine> Drop for Serving<K> {
     fn drop(self) {
         let Serving { hand: _, tables: _ } = self;
     }
+}
+
+// A tree is full where so few bytes are left: what any request needs for its steps, but for a table that
+// grows and the bytes of a write.
+const MARGIN: u64 = 65_536;
+
+// Whether a tree grows by a request, so that it needs room.
+fn needs_room(operation: &Operation) -> bool
+    ensures { result ≡ needs_room operation.now }
+{
+    match operation {
+        Operation::SymLink { name: _, target: _ } => true,
+        Operation::MkNod { name: _, mode: _ } => true,
+        Operation::MkDir { name: _, mode: _ } => true,
+        Operation::Link {
+            node: _,
+            new_name: _,
+        } => true,
+        Operation::Create {
+            name: _,
+            flags: _,
+            mode: _,
+            how: _,
+        } => true,
+        Operation::Write {
+            handle: _,
+            offset: _,
+            write_flags: _,
+            open_flags: _,
+            bytes: _,
+        } => true,
+        Operation::CopyFileRange {
+            handle: _,
+            offset: _,
+            to_node: _,
+            to_handle: _,
+            to_offset: _,
+            length: _,
+            flags: _,
+        } => true,
+        _ => false,
+    }
+}
+
+// Whether it is told that memory was refused.
+fn is_want(reply: &Reply) -> bool
+    ensures { result ≡ is_want reply.now }
+{
+    match reply {
+        Reply::Error(Errno::ENOMEM) => true,
+        _ => false,
+    }
+}
+
+// Whether hardly more may be held than is.
+fn is_full(heap: Heap) -> bool {
+    heap.held().saturating_add(MARGIN) > heap.limit()
+}
+
+// Whether it is told that memory was refused, and that was for the limit: more requests were refused for
+// it than before.
+fn is_short(heap: Heap, before: u64, reply: &Reply) -> bool
+    ensures { result ≡ true → is_want reply.now ≡ true }
+{
+    if heap.short() == before {
+        return false;
+    }
+    is_want(reply)
 }
 
 // What is answered to an outcome.
@@ -133,7 +202,7 @@ impl<K: Machine> Serving<K> {
                 flags,
             } => start(max_readahead, flags),
             Operation::Destroy => Reply::Empty,
-            Operation::StatFs => status(),
+            Operation::StatFs => status(self.space()),
             Operation::Release { handle, flags: _ } => self.release(handle),
             Operation::ReleaseDir { handle } => {
                 self.tables.folders.remove(handle);
@@ -160,8 +229,47 @@ impl<K: Machine> Serving<K> {
         match class_of(caller.node) {
             Class::Transactions => reply_of(self.in_transactions(operation)),
             Class::Control(view) => self.in_control(view, operation),
-            Class::Tree => self.in_tree(caller, operation),
+            Class::Tree => self.in_room(caller, operation),
         }
+    }
+
+    // How much room the tree has.
+    fn space(&self) -> Space {
+        let heap = self.tables.heap;
+        Space {
+            limit: heap.limit(),
+            held: heap.held(),
+            objects: self.hand.objects() as u64,
+        }
+    }
+
+    // Requests about a node of a tree. One by which it grows is held to the limit, and leaves the
+    // reserve to the others.
+    fn in_room(&mut self, caller: Caller, operation: Operation) -> Reply
+        ensures stand { Stand self.old.hand.shown self.new.hand.shown }
+        ensures grows { HasGrown self.old.hand.shown self.new.hand.shown }
+        ensures sound { StaysSound (seen self.old.tables) self.old.hand.shown
+            (seen self.new.tables) self.new.hand.shown }
+        ensures in_view { StaysInView (seen self.old.tables) caller.node
+            self.old.hand.shown.log.entries self.new.hand.shown.log.entries }
+        ensures served { ToldBy (ServesRoom (seen self.old.tables) (seen self.new.tables) caller
+            operation self.old.hand.shown self.new.hand.shown) result }
+    {
+        if !needs_room(&operation) {
+            return self.in_tree(caller, operation);
+        }
+        let heap = self.tables.heap;
+        if is_full(heap) {
+            return Reply::Error(Errno::ENOSPC);
+        }
+        let before = heap.short();
+        heap.keep_reserve();
+        let reply = self.in_tree(caller, operation);
+        heap.open_reserve();
+        if is_short(heap, before, &reply) {
+            return Reply::Error(Errno::ENOSPC);
+        }
+        reply
     }
 
     // Requests about a node of a tree.

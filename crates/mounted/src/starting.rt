@@ -1,6 +1,8 @@
 // How a session begins, and what is told of the whole tree.
-ghost use Rattle.mounted.specs.Served.{IsBeginning, IsStatus};
-ghost use Rattle.std.specs.Prelude.{Ok};
+ghost use Rattle.std.specs.Prelude.{◌≡◌, Ok};
+ghost use Rattle.fuse.specs.declared.reply.Reply.TheVariants as reply;
+ghost use Rattle.mounted.specs.Room.{status_of};
+ghost use Rattle.mounted.specs.Served.{IsBeginning};
 
 use fuse::bits::{
     INIT_BIG_WRITES, INIT_DROPS_CHANGED, INIT_DROPS_SET_IDS, INIT_MAX_PAGES, INIT_OPEN_TRUNCATES,
@@ -28,8 +30,8 @@ const CONGESTED: u16 = 12;
 
 const BLOCK_SIZE: u32 = 4_096;
 
-// The tree is in memory, and nothing tells how much there is.
-const BLOCKS: u64 = 1 << 28;
+// About what a small file takes, with its name and what is known of it beside the kernel.
+const NODE_SIZE: u64 = 1_024;
 
 const NAME_LENGTH: u32 = 255;
 
@@ -48,16 +50,27 @@ pub(crate) fn start(max_readahead: u32, flags: u32) -> Reply
     })
 }
 
+// How many bytes a tree may take, how many are held, and how many objects there are.
+#[derive(Clone, Copy)]
+pub(crate) struct Space {
+    pub(crate) limit: u64,
+    pub(crate) held: u64,
+    pub(crate) objects: u64,
+}
+
 // What is told of the whole tree.
-pub(crate) fn status() -> Reply
-    ensures { IsStatus (Ok result) }
+pub(crate) fn status(space: Space) -> Reply
+    ensures { result ≡ reply.StatFs (status_of space) }
 {
+    let free = space.limit.saturating_sub(space.held);
+    let free_blocks = free / BLOCK_SIZE as u64;
+    let free_nodes = free / NODE_SIZE;
     Reply::StatFs(StatFs {
-        blocks: BLOCKS,
-        free_blocks: BLOCKS,
-        available_blocks: BLOCKS,
-        nodes: BLOCKS,
-        free_nodes: BLOCKS,
+        blocks: space.limit / BLOCK_SIZE as u64,
+        free_blocks,
+        available_blocks: free_blocks,
+        nodes: space.objects.saturating_add(free_nodes),
+        free_nodes,
         block_size: BLOCK_SIZE,
         name_length: NAME_LENGTH,
     })

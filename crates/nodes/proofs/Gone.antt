@@ -5,14 +5,14 @@ use Rattle.std.specs.Cmp.{nat_cmp_total}
 use Rattle.ids.specs.declared.reply.Kind.{Kind}
 use Rattle.model.specs.FiniteMap as map
 use Rattle.nodes.specs.Numbers.{Becomes, Changes, GoneObjectsStayGone, IsOrderly}
-use Rattle.nodes.specs.Numbers.Changes.{LooksUp, Forgets, Detaches, Moves, Makes, Stays}
-use Rattle.nodes.specs.Tables.{Table, births_of, forgotten_by, gone, is_current, is_current_by, known, lessened, looked_up_as, made, moved_by, number_by, number_for}
+use Rattle.nodes.specs.Numbers.Changes.{LooksUp, Forgets, Detaches, Moves, Exchanges, Makes, Stays}
+use Rattle.nodes.specs.Tables.{Table, births_of, exchanged_by, forgotten_by, gone, is_current, is_current_by, known, lessened, looked_up_as, made, moved_by, number_by, number_for}
 use Rattle.nodes.specs.declared.node.Node.{Node}
 use Rattle.nodes.specs.declared.directory_entry.DirectoryEntry.{DirectoryEntry}
 use Rattle.nodes.proofs.Found.{put_or_found, same_some}
 use Rattle.nodes.proofs.Known.{is_known}
 use Rattle.nodes.proofs.Numbers.{changed_orderly, next_grows}
-use Rattle.nodes.proofs.Orderly.{NoneCame, WasThere, count_made, counted_none, lessened_none, made_count, moved_none, none_came, one_went}
+use Rattle.nodes.proofs.Orderly.{NoneCame, WasThere, count_made, counted_none, lessened_none, made_count, moved_none, none_came, one_went, placed_none}
 
 -- ---- what one call leaves of nodes and births
 
@@ -46,11 +46,18 @@ moved_follows : (t : Table) (from to : DirectoryEntry) (led : Option ℕ) → Fo
 moved_follows t from to None = follows t _ (none_came t.nodes) refl
 moved_follows t from to (Some number) = follows t _ (moved_none t.nodes number to (map.get t.nodes number) refl) refl
 
+exchanged_follows : (t : Table) (first second : DirectoryEntry) (one other : Option ℕ) → Follows t (exchanged_by t first second one other)
+exchanged_follows t first second (Some one) (Some other) = follows t _ (placed_none t.nodes first second one other) refl
+exchanged_follows t first second (Some one) None = moved_follows t first second (map.get t.numbers first)
+exchanged_follows t first second None (Some other) = moved_follows t second first (map.get t.numbers second)
+exchanged_follows t first second None None = follows t t (none_came t.nodes) refl
+
 changed_follows : (t u : Table) → IsOrderly t → Changes t u → Follows t u
 changed_follows t u o (LooksUp entry inode kind is) = rw is (looked_up_follows t entry inode kind (known t entry inode))
 changed_follows t u o (Forgets number count is) = rw is (forgotten_follows t number count (map.get t.nodes number) refl)
 changed_follows t u o (Detaches entry is) = rw is (follows t _ (none_came t.nodes) refl)
 changed_follows t u o (Moves from to is) = rw is (moved_follows t from to (map.get t.numbers from))
+changed_follows t u o (Exchanges first second is) = rw is (exchanged_follows t first second (map.get t.numbers first) (map.get t.numbers second))
 changed_follows t u o (Makes inode is) = rw is (record { nodes = λ number node low there. none_came t.nodes number node there; births = λ other. (made_count t.births inode other o.counts).0 })
 changed_follows t u o (Stays is) = rw is (follows t t (none_came t.nodes) refl)
 

@@ -4,13 +4,13 @@ use Rattle.std.specs.Prelude.{nat_le, if◌then◌else◌}
 use Rattle.ids.specs.declared.reply.Kind.{Kind}
 use Rattle.model.specs.FiniteMap as map
 use Rattle.nodes.specs.Numbers.{Becomes, Changes, IsOrderly, NumbersAreGivenOnce}
-use Rattle.nodes.specs.Numbers.Changes.{LooksUp, Forgets, Detaches, Moves, Makes, Stays}
+use Rattle.nodes.specs.Numbers.Changes.{LooksUp, Forgets, Detaches, Moves, Exchanges, Makes, Stays}
 use Rattle.nodes.specs.Parts.{table_of}
-use Rattle.nodes.specs.Tables.{Table, forgotten_by, gone, known, lessened, looked_up, looked_up_as, moved_by, number_for}
+use Rattle.nodes.specs.Tables.{Table, exchanged_by, forgotten_by, gone, known, lessened, looked_up, looked_up_as, moved_by, number_for}
 use Rattle.nodes.specs.declared.node.Node.{Node}
 use Rattle.nodes.specs.declared.directory_entry.DirectoryEntry.{DirectoryEntry}
 use Rattle.nodes.proofs.Known.{new_number, unlinked_number, unused_number}
-use Rattle.nodes.proofs.Orderly.{detached_orderly, empty_orderly, forgotten_orderly, looked_up_as_orderly, made_orderly, moved_orderly}
+use Rattle.nodes.proofs.Orderly.{detached_orderly, empty_orderly, exchanged_orderly, forgotten_orderly, looked_up_as_orderly, made_orderly, moved_orderly}
 
 abbrev next_of : Table → ℕ
 next_of t = t.next
@@ -22,6 +22,7 @@ changed_orderly t u o (LooksUp entry inode kind is) = rw is (looked_up_as_orderl
 changed_orderly t u o (Forgets number count is) = rw is (forgotten_orderly t number count o)
 changed_orderly t u o (Detaches entry is) = rw is (detached_orderly t entry o)
 changed_orderly t u o (Moves from to is) = rw is (moved_orderly t from to o)
+changed_orderly t u o (Exchanges first second is) = rw is (exchanged_orderly t first second o)
 changed_orderly t u o (Makes inode is) = rw is (made_orderly t inode o)
 changed_orderly t u o (Stays is) = rw is o
 
@@ -41,11 +42,18 @@ pub moved_next : (t : Table) (from to : DirectoryEntry) (led : Option ℕ) → (
 moved_next t from to None = refl
 moved_next t from to (Some number) = refl
 
+pub exchanged_next : (t : Table) (first second : DirectoryEntry) (one other : Option ℕ) → (exchanged_by t first second one other).next ≡ t.next
+exchanged_next t first second (Some one) (Some other) = refl
+exchanged_next t first second (Some one) None = moved_next t first second (map.get t.numbers first)
+exchanged_next t first second None (Some other) = moved_next t second first (map.get t.numbers second)
+exchanged_next t first second None None = refl
+
 changed_next : (t u : Table) → Changes t u → t.next ≤ u.next
 changed_next t u (LooksUp entry inode kind is) = omega (arith, ap next_of is, looked_up_next t entry inode kind (known t entry inode))
 changed_next t u (Forgets number count is) = omega (arith, ap next_of is, forgotten_next t number count (map.get t.nodes number))
 changed_next t u (Detaches entry is) = omega (arith, ap next_of is)
 changed_next t u (Moves from to is) = omega (arith, ap next_of is, moved_next t from to (map.get t.numbers from))
+changed_next t u (Exchanges first second is) = omega (arith, ap next_of is, exchanged_next t first second (map.get t.numbers first) (map.get t.numbers second))
 changed_next t u (Makes inode is) = omega (arith, ap next_of is)
 changed_next t u (Stays is) = omega (arith, ap next_of is)
 

@@ -1,5 +1,5 @@
 -- Each change of a table keeps it orderly.
-use Rattle.std.proofs.Common.{◌≡◌, ℕ, ◌+◌, ◌-◌, ◌^◌, ◌<◌, ◌≤◌, Bool, true, false, min, Option, Some, None, inl, inr, refl, sym, ap, ◌∙◌, arith}
+use Rattle.std.proofs.Common.{◌≡◌, ℕ, ◌+◌, ◌-◌, ◌^◌, ◌<◌, ◌≤◌, Bool, true, false, min, Option, Some, None, inl, inr, refl, sym, subst, ap, ◌∙◌, arith}
 use Rattle.std.specs.Prelude.{Result, Ok, Err, OnErr, OnOk, nat_le, if◌then◌else◌}
 use Rattle.std.specs.Cmp.{nat_cmp_total}
 use Rattle.std.specs.Ordering.{nat_cmp}
@@ -10,7 +10,7 @@ use Rattle.model.proofs.Laws.{get_other, get_same}
 use Rattle.nodes.specs.DirectoryEntries.{entry_cmp, entry_cmp_total, entry_exact}
 use Rattle.nodes.specs.Numbers.{IsGiven, IsOrderly}
 use Rattle.nodes.specs.Parts.{table_of}
-use Rattle.nodes.specs.Tables.{Table, births_by, births_of, counted, detached, forgotten, forgotten_by, gone, is_this, lessened, looked_up_as, made, more, moved, moved_by, unlinked, with_birth, with_entry, without}
+use Rattle.nodes.specs.Tables.{Table, births_by, births_of, counted, detached, forgotten, forgotten_by, gone, exchanged, exchanged_by, is_this, leading, led_both, lessened, looked_up_as, made, more, moved, moved_by, placed_both, unlinked, with_birth, with_entry, without}
 use Rattle.nodes.specs.declared.node.Node.{Node}
 use Rattle.nodes.specs.declared.directory_entry.DirectoryEntry.{DirectoryEntry}
 use Rattle.nodes.proofs.Found.{found_before, no_some, put_or_found}
@@ -105,6 +105,39 @@ moved_by_orderly t from to (Some number) o is = kept t (with_entry number to (ma
 
 pub moved_orderly : (t : Table) (from to : DirectoryEntry) → IsOrderly t → IsOrderly (moved t from to)
 moved_orderly t from to o = moved_by_orderly t from to (map.get t.numbers from) o refl
+
+-- two entries lead to what the other one led to
+pub came_then : (a b d : Nodes) → NoneCame a b → NoneCame b d → NoneCame a d
+came_then a b d f g number node is =
+    let w = g number node is in
+    let v = f number w.former w.was in
+    record { former = v.former; was = v.was; inode = w.inode ∙ v.inode; birth = w.birth ∙ v.birth }
+
+pub placed_none : (old : Nodes) (first second : DirectoryEntry) (one other : ℕ) → NoneCame old (placed_both first second one other old)
+placed_none old first second one other =
+    let mid : Nodes = with_entry one second (map.get old one) old in
+    came_then old mid (with_entry other first (map.get mid other) mid) (moved_none old one second (map.get old one) refl) (moved_none mid other first (map.get mid other) refl)
+
+leading_given : (next : ℕ) (numbers : Numbers) (entry : DirectoryEntry) (number : ℕ) (found : Option ℕ) → AreGiven next numbers → IsGiven next number → AreGiven next (leading entry number found numbers)
+leading_given next numbers entry number None h given e found is = h e found is
+leading_given next numbers entry number (Some former) h given e found is = elim (put_or_found entry_cmp_total entry_exact numbers entry number e found is) [
+  | inl same ↦ subst (λ (k : ℕ). IsGiven next k) same.1 given
+  | inr before ↦ h e found before
+]
+
+pub led_given : (t : Table) (first second : DirectoryEntry) (one other : ℕ) → IsOrderly t → map.get t.numbers first ≡ Some one → map.get t.numbers second ≡ Some other → AreGiven t.next (led_both first second one other t.numbers)
+led_given t first second one other o at_first at_second =
+    let mid : Numbers = leading second one (map.get t.numbers second) t.numbers in
+    leading_given t.next mid first other (map.get mid first) (leading_given t.next t.numbers second one (map.get t.numbers second) o.numbers (o.numbers first one at_first)) (o.numbers second other at_second)
+
+exchanged_by_orderly : (t : Table) (first second : DirectoryEntry) (one other : Option ℕ) → IsOrderly t → map.get t.numbers first ≡ one → map.get t.numbers second ≡ other → IsOrderly (exchanged_by t first second one other)
+exchanged_by_orderly t first second (Some one) (Some other) o is also = kept t (placed_both first second one other t.nodes) (led_both first second one other t.numbers) o (placed_none t.nodes first second one other) (led_given t first second one other o is also)
+exchanged_by_orderly t first second (Some one) None o is also = moved_orderly t first second o
+exchanged_by_orderly t first second None (Some other) o is also = moved_orderly t second first o
+exchanged_by_orderly t first second None None o is also = o
+
+pub exchanged_orderly : (t : Table) (first second : DirectoryEntry) → IsOrderly t → IsOrderly (exchanged t first second)
+exchanged_orderly t first second o = exchanged_by_orderly t first second (map.get t.numbers first) (map.get t.numbers second) o refl refl
 
 forgotten_by_orderly : (t : Table) (number count : ℕ) (found : Option Node) → IsOrderly t → map.get t.nodes number ≡ found → IsOrderly (forgotten_by t number count found)
 forgotten_by_orderly t number count None o is = o

@@ -55,18 +55,18 @@ further t most number root node before mid after some is on above put = (
 )
 
 -- no path
-pub no_path : (t : Table) (number : ℕ) → way_to t 513 number ≡ None → path_of t number ≡ None
+pub no_path : (t : Table) (number : ℕ) → way_to t 2049 number ≡ None → path_of t number ≡ None
 unfolding path_of
 no_path t number none = ap (option_and_then if_short) none
 
 -- a path, if it is short
-pub path_at : (t : Table) (number root : ℕ) (bytes : List ℕ) → IsAdded (way_to t 513 number) [] (Some root) bytes → path_of t number ≡ if_short (root, bytes)
+pub path_at : (t : Table) (number root : ℕ) (bytes : List ℕ) → IsAdded (way_to t 2049 number) [] (Some root) bytes → path_of t number ≡ if_short (root, bytes)
 unfolding path_of
 path_at t number root bytes added = ap (option_and_then if_short) added.1 ∙ ap (λ (b : List ℕ). if_short (root, b)) (sym added.2)
 
 -- a path that is too long, and one that is not
-pub too_long : (t : Table) (number root : ℕ) (bytes : List ℕ) → 1024 < length bytes → IsAdded (way_to t 513 number) [] (Some root) bytes → path_of t number ≡ None
-too_long t number root bytes long added = let e : leb (length bytes) 1024 ≡ false = lt-leb (length bytes) 1024 long in path_at t number root bytes added ∙ ap (λ (b : Bool). if b then Some (root, bytes) else None) e
+pub too_long : (t : Table) (number root : ℕ) (bytes : List ℕ) → 4096 < length bytes → IsAdded (way_to t 2049 number) [] (Some root) bytes → path_of t number ≡ None
+too_long t number root bytes long added = let e : leb (length bytes) 4096 ≡ false = lt-leb (length bytes) 4096 long in path_at t number root bytes added ∙ ap (λ (b : Bool). if b then Some (root, bytes) else None) e
 
-pub short : (t : Table) (number root : ℕ) (bytes : List ℕ) → length bytes ≤ 1024 → IsAdded (way_to t 513 number) [] (Some root) bytes → path_of t number ≡ Some (root, bytes)
-short t number root bytes long added = let e : leb (length bytes) 1024 ≡ true = le-leb (length bytes) 1024 long in path_at t number root bytes added ∙ ap (λ (b : Bool). if b then Some (root, bytes) else None) e
+pub short : (t : Table) (number root : ℕ) (bytes : List ℕ) → length bytes ≤ 4096 → IsAdded (way_to t 2049 number) [] (Some root) bytes → path_of t number ≡ Some (root, bytes)
+short t number root bytes long added = let e : leb (length bytes) 4096 ≡ true = le-leb (length bytes) 4096 long in path_at t number root bytes added ∙ ap (λ (b : Bool). if b then Some (root, bytes) else None) e

@@ -3,8 +3,8 @@ use Rattle.std.specs.Prelude.{◌≡◌, ◌≢◌, ℕ, ◌-◌, ◌^◌, ◌<�
 use Rattle.std.specs.Prelude.{Option, Some, None}
 use Rattle.ids.specs.declared.reply.Kind.{Kind}
 use Rattle.model.specs.FiniteMap as map
-use Rattle.nodes.specs.Tables.{Table, births_of, detached, forgotten, is_current, known, looked_up}
-use Rattle.nodes.specs.Tables.{made, moved, number_for}
+use Rattle.nodes.specs.Tables.{Table, births_of, detached, exchanged, forgotten, is_current, known}
+use Rattle.nodes.specs.Tables.{looked_up, made, moved, number_for}
 use Rattle.nodes.specs.declared.node.Node.{Node}
 use Rattle.nodes.specs.declared.directory_entry.DirectoryEntry.{DirectoryEntry}
 
@@ -47,6 +47,7 @@ pub data Changes (old new : Table) : Type 0 where
   Forgets : (number count : ℕ) → new ≡ forgotten old number count → Changes old new
   Detaches : (entry : DirectoryEntry) → new ≡ detached old entry → Changes old new
   Moves : (from to : DirectoryEntry) → new ≡ moved old from to → Changes old new
+  Exchanges : (first second : DirectoryEntry) → new ≡ exchanged old first second → Changes old new
   Makes : (inode : ℕ) → new ≡ made old inode → Changes old new
   Stays : new ≡ old → Changes old new
 

@@ -6,6 +6,7 @@ use Rattle.std.specs.Ordering.{nat_cmp}
 use Rattle.model.specs.FiniteMap as map
 use Rattle.nodes.specs.DirectoryEntries.{entry_cmp, coded_entry}
 use Rattle.nodes.specs.Tables.{Table, coded_node, table_code}
+use Rattle.nodes.specs.declared.directory_entry.DirectoryEntry.{DirectoryEntry}
 use Rattle.nodes.specs.declared.node.Node.{Node}
 
 -- the index, and for how many more entries there is room
@@ -17,6 +18,10 @@ abbrev pub numbered_code : Coded Numbered
 numbered_code = code_by (map.FinMap entry_cmp ℕ × ℕ)
     (coded× (map.code coded_entry coded_ℕ) coded_ℕ)
     (λ i. (i.numbers, i.room)) (λ q. record { numbers = q.0; room = q.1 }) (λ _. refl)
+
+-- the index of a table
+abbrev pub numbers_in : {S : Type 0} → HashMap DirectoryEntry ℕ S → map.FinMap entry_cmp ℕ
+numbers_in table = map.from_entries {R = entry_cmp} table.entries
 
 -- the nodes of a table
 abbrev pub nodes_in : {S : Type 0} → HashMap ℕ Node S → map.FinMap nat_cmp Node

@@ -25,12 +25,12 @@ unfoldable pub way_to : Table → ℕ → ℕ → Option Way
 way_to t zero number = None
 way_to t (suc more) number = way_by t number (map.get t.nodes number) (way_to t more)
 
--- a path has at most 1,024 bytes, and so at most 512 names
+-- a path has at most 4,096 bytes, and so at most 2,048 names
 abbrev pub if_short : Way → Option Way
-if_short way = if nat_le (length way.1) 1024 then Some way else None
+if_short way = if nat_le (length way.1) 4096 then Some way else None
 
 unfoldable pub path_of : Table → ℕ → Option Way
-path_of t number = option_and_then if_short (way_to t 513 number)
+path_of t number = option_and_then if_short (way_to t 2049 number)
 
 -- a way was added behind these bytes, and its root was given; or there is none
 abbrev pub IsAdded : Option Way → List ℕ → Option ℕ → List ℕ → Type 0

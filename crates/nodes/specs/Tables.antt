@@ -228,3 +228,34 @@ moved_by t from to None = detached t to
 
 abbrev pub moved : Table → DirectoryEntry → DirectoryEntry → Table
 moved t from to = moved_by t from to (map.get t.numbers from)
+
+-- the entries where one that leads to a number leads to this one
+abbrev pub leading : DirectoryEntry → ℕ → Option ℕ → map.FinMap entry_cmp ℕ → map.FinMap entry_cmp ℕ
+leading entry number None numbers = numbers
+leading entry number (Some former) numbers = map.insert numbers entry number
+
+-- Two names were exchanged: what each led to is at the other.
+abbrev pub placed_both : DirectoryEntry → DirectoryEntry → ℕ → ℕ → map.FinMap nat_cmp Node
+    → map.FinMap nat_cmp Node
+placed_both first second one other nodes =
+    with_entry other first (map.get (with_entry one second (map.get nodes one) nodes) other)
+    (with_entry one second (map.get nodes one) nodes)
+
+abbrev pub led_both : DirectoryEntry → DirectoryEntry → ℕ → ℕ → map.FinMap entry_cmp ℕ
+    → map.FinMap entry_cmp ℕ
+led_both first second one other numbers =
+    leading first other (map.get (leading second one (map.get numbers second) numbers) first)
+    (leading second one (map.get numbers second) numbers)
+
+abbrev pub exchanged_by : Table → DirectoryEntry → DirectoryEntry → Option ℕ → Option ℕ → Table
+exchanged_by t first second (Some one) (Some other) = record t {
+  nodes = placed_both first second one other t.nodes;
+  numbers = led_both first second one other t.numbers;
+}
+exchanged_by t first second (Some one) None = moved t first second
+exchanged_by t first second None (Some other) = moved t second first
+exchanged_by t first second None None = t
+
+abbrev pub exchanged : Table → DirectoryEntry → DirectoryEntry → Table
+exchanged t first second =
+    exchanged_by t first second (map.get t.numbers first) (map.get t.numbers second)

@@ -1,6 +1,9 @@
 // Which number each entry leads to.
 ghost use Rattle.std.specs.Prelude.{◌≡◌, ◌+◌, ◌≤◌, ◌<◌, IsOk, OnErr, OnOk};
 ghost use Rattle.model.specs.FiniteMap as map;
+ghost use Rattle.std.specs.HashMap.{spare};
+ghost use Rattle.nodes.specs.Parts.{numbers_in};
+ghost use Rattle.nodes.specs.Tables.{leading};
 
 use crate::directory_entry::DirectoryEntry;
 use heap::Heap;
@@ -39,6 +42,19 @@ impl Model for Index {
     } };
 }
 
+// An entry that leads to a number leads to this one.
+fn lead_in(numbers: &mut Numbers, entry: &DirectoryEntry, number: u64)
+    ensures numbers { numbers_in numbers.new
+        ≡ leading entry.now number (map.get (numbers_in numbers.old) entry.now)
+        (numbers_in numbers.old) }
+    ensures room { spare numbers.new ≡ spare numbers.old }
+{
+    match numbers.get_mut(entry) {
+        Some(former) => *former = number,
+        None => {}
+    }
+}
+
 impl Index {
     // No entry. It takes no memory.
     pub(crate) fn new(heap: Heap) -> Index
@@ -75,6 +91,15 @@ impl Index {
     {
         self.numbers.insert(entry, number)?;
         Ok(())
+    }
+
+    // An entry that leads to a number leads to this one. It takes no memory.
+    pub(crate) fn lead(&mut self, entry: &DirectoryEntry, number: u64)
+        ensures numbers { self.new.numbers
+            ≡ leading entry.now number (map.get self.old.numbers entry.now) self.old.numbers }
+        ensures room { self.new.room ≡ self.old.room }
+    {
+        lead_in(&mut self.numbers, entry, number);
     }
 
     // An entry leads nowhere any more. It takes no memory.

@@ -1,10 +1,10 @@
 // All nodes of a mount.
-ghost use Rattle.std.specs.Prelude.{◌≡◌, ◌<◌, ◌≤◌, IfOk, IfSome, IsOk, OnErr, OnOk};
+ghost use Rattle.std.specs.Prelude.{◌≡◌, ◌<◌, ◌≤◌, IfOk, IfSome, IsOk, OnErr, OnOk, Some};
 ghost use Rattle.std.specs.Prelude.{option_copied, option_map};
 ghost use Rattle.model.specs.FiniteMap as map;
-ghost use Rattle.nodes.specs.Tables.{added, detached, forgotten, if_of, is_current, is_this, known};
-ghost use Rattle.nodes.specs.Tables.{looked_up, made, moved, number_for, root_by, root_of, unlinked};
-ghost use Rattle.nodes.specs.Tables.{without};
+ghost use Rattle.nodes.specs.Tables.{added, detached, exchanged, forgotten, if_of, is_current};
+ghost use Rattle.nodes.specs.Tables.{is_this, known, led_both, looked_up, made, moved, number_for};
+ghost use Rattle.nodes.specs.Tables.{placed_both, root_by, root_of, unlinked, without};
 ghost use Rattle.nodes.specs.Numbers.{IsFresh, IsGivenFor};
 ghost use Rattle.nodes.specs.Parts.{room_of};
 ghost use Rattle.nodes.specs.Paths.{IsAdded, path_of, way_to};
@@ -26,7 +26,7 @@ pub const FIRST_NUMBER: u64 = 16;
 pub const LAST_NUMBER: u64 = 1 << 62;
 
 /// The most names of a path, and one step more for the root.
-pub const NAMES_LIMIT: u32 = 513;
+pub const NAMES_LIMIT: u32 = 2049;
 
 /// What the numbers of nodes stand for. A number that is none of a node is a root's.
 pub struct Nodes {
@@ -323,6 +323,44 @@ impl Nodes {
         Ok(())
     }
 
+    // What each of two entries leads to is at the other.
+    fn place_both(&mut self, first: Spot, second: Spot, one: u64, other: u64)
+        requires first { map.get self.old.table.numbers first ≡ Some one }
+        requires second { map.get self.old.table.numbers second ≡ Some other }
+        ensures table { self.new.table ≡ record self.old.table {
+          nodes = placed_both first second one other self.old.table.nodes;
+          numbers = led_both first second one other self.old.table.numbers;
+        } }
+        ensures next { self.new.table.next ≡ self.old.table.next }
+    {
+        self.index.lead(second.entry(), one);
+        self.index.lead(first.entry(), other);
+        let (at_second, _) = second.into_both();
+        self.list.put(one, at_second);
+        let (at_first, _) = first.into_both();
+        self.list.put(other, at_first);
+    }
+
+    /// Two names were exchanged: what each entry led to is at the other. Refused memory changes nothing.
+    pub fn exchange(&mut self, first: Spot, second: Spot) -> Result<(), AllocError>
+        ensures ok { OnOk result (self.new.table ≡ exchanged self.old.table first second) }
+        ensures err { OnErr result (self.new.table ≡ self.old.table) }
+        ensures next { self.new.table.next ≡ self.old.table.next }
+        ensures succeeds { 0 < self.old.room → IsOk result }
+    {
+        let one = self.index.get(first.entry());
+        let other = self.index.get(second.entry());
+        match (one, other) {
+            (Some(one), Some(other)) => {
+                self.place_both(first, second, one, other);
+                Ok(())
+            }
+            (Some(_), None) => self.move_entry(first.entry(), second),
+            (None, Some(_)) => self.move_entry(second.entry(), first),
+            (None, None) => Ok(()),
+        }
+    }
+
     // Puts the names from a root down to a node behind the bytes, each after a slash, through at most
     // so many names, and gives the root. There is no way through a node that is not attached.
     fn put_way(
@@ -353,7 +391,7 @@ impl Nodes {
 
     /// The root below which a node is, and its path from there, which begins with a slash, or is
     /// empty for the root itself. None where a node on the way is not attached, or the path has more
-    /// than 1,024 bytes.
+    /// than 4,096 bytes.
     pub fn path(&self, heap: Heap, number: u64) -> Result<Option<(u64, Bytes)>, AllocError>
         ensures { IfOk result (λ path. path ≡ path_of self.now.table number) }
     {

@@ -52,6 +52,12 @@ pub record LaidIn (offset : ℕ) (cells : List (Option ℕ)) (old new : List ℕ
       → get_or new p 0 ≡ unwrap_or (get_or cells (p - offset) None) (get_or old p 0)
   pub outside : (p : ℕ) → (p < offset) ⊎ (offset + length cells ≤ p) → get_or new p 0 ≡ get_or old p 0
 
+-- bytes from one offset on, below another, are zero, and the others stay; what is not there is zero
+pub record WipedIn (from to : ℕ) (old new : List ℕ) : Type 0 where
+  pub len : length new ≤ length old
+  pub inside : (p : ℕ) → from ≤ p → p < to → get_or new p 0 ≡ 0
+  pub outside : (p : ℕ) → (p < from) ⊎ (to ≤ p) → get_or new p 0 ≡ get_or old p 0
+
 -- there is memory for these bytes, piece by piece
 abbrev pub HasRoom : List (List ℕ) → (offset count : ℕ) → Type 0
 HasRoom rooms offset count = (number : ℕ) → offset < number * PIECE_LEN + PIECE_LEN

@@ -1,8 +1,8 @@
 // Pieces of a file in a row.
-ghost use Rattle.std.specs.Prelude.{◌≡◌, ◌≢◌, ℕ, ◌+◌, ◌<◌, ◌≤◌, ◌⊎◌, [], length, take, OnOk};
+ghost use Rattle.std.specs.Prelude.{◌≡◌, ◌≢◌, ℕ, ◌+◌, ◌<◌, ◌≤◌, ◌⊎◌, [], length, take, true, OnOk};
 ghost use Rattle.model.specs.Changes.{written};
 ghost use Rattle.objects.specs.Contents.{Content};
-ghost use Rattle.objects.specs.Pieces.{LaidIn, piece_in};
+ghost use Rattle.objects.specs.Pieces.{LaidIn, WipedIn, piece_in};
 ghost use Rattle.objects.specs.declared.group.TheConstants.{GROUP_LEN, PIECE_LEN};
 
 use crate::cell::Cell;
@@ -10,6 +10,7 @@ use crate::run::Run;
 use heap::Heap;
 use std::alloc::AllocError;
 use std::marker::Model;
+use std::mem;
 
 /// How many bytes a piece has at most: fifteen blocks. What is written comes in buffers whose lengths
 /// are mostly powers of two, and pieces are made where such buffers lay before. With what an allocator
@@ -134,6 +135,21 @@ impl Group {
         }
     }
 
+    /// Makes bytes of a piece zero, from one offset on, below another. The memory of a piece of which
+    /// nothing is left is given back. It takes none.
+    pub(crate) fn wipe(&mut self, index: usize, from: usize, to: usize)
+        requires { from ≤ to }
+        ensures here { WipedIn
+            from to (piece_in self.old index).bytes (piece_in self.new index).bytes }
+        ensures others { (i : ℕ) → i ≢ index
+            → (piece_in self.new i).bytes ≡ (piece_in self.old i).bytes }
+    {
+        let heap = self.heap;
+        if index < self.pieces.len() {
+            wipe_in(heap, &mut self.pieces[index], from, to);
+        }
+    }
+
     /// Both groups as one, in which each piece has the room of the roomier. Of two pieces at one
     /// place one has no bytes. It takes no memory.
     pub(crate) fn join(self, other: Group) -> Group
@@ -174,4 +190,24 @@ impl Group {
         }
         long
     }
+}
+
+// Makes bytes of a piece zero, from one offset on, below another, and gives its memory back where
+// nothing is left of it.
+fn wipe_in(heap: Heap, piece: &mut Run, from: usize, to: usize)
+    requires { from ≤ to }
+    ensures { WipedIn from to piece.old.bytes piece.new.bytes }
+{
+    if goes_whole(piece, from, to) {
+        drop(mem::replace(piece, Run::new(heap)));
+    } else {
+        piece.wipe(from, to);
+    }
+}
+
+// Whether no byte of a piece stands outside these.
+fn goes_whole(piece: &Run, from: usize, to: usize) -> bool
+    ensures { result ≡ true → (from ≡ 0) × (length piece.now.bytes ≤ to) }
+{
+    from == 0 && piece.len() <= to
 }

@@ -1,7 +1,7 @@
 // The pieces of a file, by their numbers.
 ghost use Rattle.std.specs.Prelude.{◌≡◌, ◌≢◌, ℕ, ◌+◌, ◌<◌, ◌≤◌, ◌⊎◌, [], length, take, OnOk};
 ghost use Rattle.model.specs.Changes.{written};
-ghost use Rattle.objects.specs.Pieces.{LaidIn, piece_of};
+ghost use Rattle.objects.specs.Pieces.{LaidIn, WipedIn, piece_of};
 ghost use Rattle.objects.specs.declared.group.TheConstants.{PIECE_LEN};
 
 use crate::cell::Cell;
@@ -122,6 +122,20 @@ impl Pieces {
         if number / GROUP_LEN < self.groups.len() {
             self.groups[number / GROUP_LEN].cut(number % GROUP_LEN, len);
             self.groups.truncate(number / GROUP_LEN + 1);
+        }
+    }
+
+    /// Makes bytes of a piece zero, from one offset on, below another. The memory of a piece of which
+    /// nothing is left is given back. It takes none.
+    pub(crate) fn wipe(&mut self, number: usize, from: usize, to: usize)
+        requires { from ≤ to }
+        ensures here { WipedIn
+            from to (piece_of self.old number).bytes (piece_of self.new number).bytes }
+        ensures others { (n : ℕ) → n ≢ number
+            → (piece_of self.new n).bytes ≡ (piece_of self.old n).bytes }
+    {
+        if number / GROUP_LEN < self.groups.len() {
+            self.groups[number / GROUP_LEN].wipe(number % GROUP_LEN, from, to);
         }
     }
 

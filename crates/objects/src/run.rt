@@ -4,10 +4,10 @@ ghost use Rattle.std.specs.Prelude.{◌≡◌, ◌+◌, ◌≤◌, ◌⊎◌, Is
 ghost use Rattle.std.specs.Prelude.{[], ◌++◌, length, take, drop, vec_capacity};
 ghost use Rattle.model.specs.Changes.{sized, written};
 ghost use Rattle.objects.specs.Contents.{pasted, Overlaid};
-ghost use Rattle.objects.specs.Pieces.{LaidIn};
+ghost use Rattle.objects.specs.Pieces.{LaidIn, WipedIn};
 
 use crate::cell::Cell;
-use crate::slices::{lay, part, paste};
+use crate::slices::{lay, part, paste, wipe};
 use heap::Heap;
 use ids::Bytes;
 use std::alloc::AllocError;
@@ -219,6 +219,20 @@ impl Run {
         self.bytes.extend_from_slice(part(bytes, 0, len)).unwrap();
         self.bytes.resize(end, 0).unwrap();
         Ok(())
+    }
+
+    /// Makes bytes zero from one offset on, below another. Where none comes behind them it ends before
+    /// them. It takes no memory.
+    pub(crate) fn wipe(&mut self, from: usize, to: usize)
+        requires { from ≤ to }
+        ensures after { WipedIn from to self.old.bytes self.new.bytes }
+        ensures room { self.old.room ≤ self.new.room }
+    {
+        if self.bytes.len() <= to {
+            self.shorten(from);
+        } else {
+            wipe(self.bytes.as_mut_slice(), from, to);
+        }
     }
 
     // Its bytes, with its room.

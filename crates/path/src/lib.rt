@@ -10,8 +10,8 @@ ghost use Rattle.model.specs.Paths.{same_name, with_first};
 ghost use Rattle.path.specs.Parsing.{IsRefusalBy, pieces_left, bytes_left};
 
 use heap::Heap;
+pub use ids::NAME_LIMIT;
 use ids::{Errno, Name, Refusal};
-pub use ids::{NAME_LIMIT, PATH_LIMIT};
 use smallvec::SmallVec;
 use std::marker::Model;
 
@@ -41,16 +41,16 @@ impl Model for Path {
 impl Path {
     /// Reads a path.
     ///
-    /// It is refused with `ENAMETOOLONG` where it has more than [`PATH_LIMIT`] bytes, then with
-    /// `EINVAL` where it is empty or does not begin with a slash. Then its names are read from the
+    /// It is refused with `ENAMETOOLONG` where it has more than `most` bytes, then with `EINVAL` where
+    /// it is empty or does not begin with a slash. Then its names are read from the
     /// left: the first that has more than [`NAME_LIMIT`] bytes is refused with `ENAMETOOLONG`, and
     /// the first that is empty, holds a zero byte, or is `.` or `..` with `EINVAL`. `NoMemory` says
     /// that memory was refused.
-    pub fn parse(heap: Heap, bytes: &[u8]) -> Result<Path, Refusal>
-        ensures ok { IfOk result (λ path. path_names bytes.now ≡ Ok path) }
-        ensures refused { IfErr result (λ why. IsRefusalBy why (path_names bytes.now)) }
+    pub fn parse(heap: Heap, bytes: &[u8], most: u32) -> Result<Path, Refusal>
+        ensures ok { IfOk result (λ path. path_names most bytes.now ≡ Ok path) }
+        ensures refused { IfErr result (λ why. IsRefusalBy why (path_names most bytes.now)) }
     {
-        if bytes.len() > PATH_LIMIT {
+        if bytes.len() > most as usize {
             return Err(Refusal::Errno(Errno::ENAMETOOLONG));
         }
         match bytes {

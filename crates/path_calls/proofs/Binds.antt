@@ -3,6 +3,7 @@ use Rattle.std.proofs.Common.{◌≡◌, ℕ, List, [], ◌∷◌, Bool, true, f
 use Rattle.std.specs.List.{list_any}
 use Rattle.model.specs.Limits.{target_limit}
 use Rattle.std.specs.Prelude.{IsErrAnd}
+use Rattle.std.specs.Option.{IfSome}
 use Rattle.model.specs.State.{Kernel, A_directory, A_link}
 use Rattle.model.specs.Plan.{Errno as Refused, EINVAL, EISDIR, ENAMETOOLONG, ENOENT, ENOTDIR, ENOTEMPTY, Plan, Give, Refuse, Ask, List_names, Count_links, ◌>>=◌, ◌>>◌, ask, refuse_if}
 use Rattle.model.specs.Walks.{Place, Last, is_directory, parsed, walk, last_of}
@@ -22,18 +23,18 @@ binds (Refuse e) f g = refl
 binds (Ask q next) f g = λ i. Ask q (λ a. binds (next a) f g i)
 
 -- the place that a path leads to, and the rest
-pub place_go : {B : Type 0} {k : Kernel} (path : List ℕ) (g : Place → Plan B) {before : Option (List Touch)} {x : Place} {mid : Option (List Touch)} {r : Result B Refusal} {after : Option (List Touch)} → Comes k (place_at k.root path) before (Ok x) mid → Comes k (g x) mid r after → Comes k (parsed path >>= (λ names. walk (k.root, Some A_directory) names >>= g)) before r after
-place_go {k = k} path g h rest = via (sym (binds (parsed path) (walk (k.root, Some A_directory)) g)) (goes g h rest)
+pub place_go : {B : Type 0} {k : Kernel} (path : List ℕ) (g : Place → Plan B) {before : Option (List Touch)} {x : Place} {mid : Option (List Touch)} {r : Result B Refusal} {after : Option (List Touch)} → Comes k (place_at k.bounds.path_bytes k.root path) before (Ok x) mid → Comes k (g x) mid r after → Comes k (parsed k.bounds.path_bytes path >>= (λ names. walk (k.root, Some A_directory) names >>= g)) before r after
+place_go {k = k} path g h rest = via (sym (binds (parsed k.bounds.path_bytes path) (walk (k.root, Some A_directory)) g)) (goes g h rest)
 
-pub place_stop : {B : Type 0} {k : Kernel} (path : List ℕ) (g : Place → Plan B) {before : Option (List Touch)} {why : Refusal} {after : Option (List Touch)} {r : Result B Refusal} → IsErrAnd r (λ y. y ≡ why) → Comes k (place_at k.root path) before (Err why) after → Comes k (parsed path >>= (λ names. walk (k.root, Some A_directory) names >>= g)) before r after
-place_stop {k = k} path g is h = via (sym (binds (parsed path) (walk (k.root, Some A_directory)) g)) (stops g is h)
+pub place_stop : {B : Type 0} {k : Kernel} (path : List ℕ) (g : Place → Plan B) {before : Option (List Touch)} {why : Refusal} {after : Option (List Touch)} {r : Result B Refusal} → IsErrAnd r (λ y. y ≡ why) → Comes k (place_at k.bounds.path_bytes k.root path) before (Err why) after → Comes k (parsed k.bounds.path_bytes path >>= (λ names. walk (k.root, Some A_directory) names >>= g)) before r after
+place_stop {k = k} path g is h = via (sym (binds (parsed k.bounds.path_bytes path) (walk (k.root, Some A_directory)) g)) (stops g is h)
 
 -- where a path's last name stands, and the rest
-pub last_go : {B : Type 0} {k : Kernel} (e : Refused) (path : List ℕ) (g : Last → Plan B) {before : Option (List Touch)} {x : Last} {mid : Option (List Touch)} {r : Result B Refusal} {after : Option (List Touch)} → Comes k (last_at k.root e path) before (Ok x) mid → Comes k (g x) mid r after → Comes k (parsed path >>= (λ names. last_of k.root e names >>= g)) before r after
-last_go {k = k} e path g h rest = via (sym (binds (parsed path) (last_of k.root e) g)) (goes g h rest)
+pub last_go : {B : Type 0} {k : Kernel} (e : Refused) (path : List ℕ) (g : Last → Plan B) {before : Option (List Touch)} {x : Last} {mid : Option (List Touch)} {r : Result B Refusal} {after : Option (List Touch)} → Comes k (last_at k.bounds.path_bytes k.root e path) before (Ok x) mid → Comes k (g x) mid r after → Comes k (parsed k.bounds.path_bytes path >>= (λ names. last_of k.root e names >>= g)) before r after
+last_go {k = k} e path g h rest = via (sym (binds (parsed k.bounds.path_bytes path) (last_of k.root e) g)) (goes g h rest)
 
-pub last_stop : {B : Type 0} {k : Kernel} (e : Refused) (path : List ℕ) (g : Last → Plan B) {before : Option (List Touch)} {why : Refusal} {after : Option (List Touch)} {r : Result B Refusal} → IsErrAnd r (λ y. y ≡ why) → Comes k (last_at k.root e path) before (Err why) after → Comes k (parsed path >>= (λ names. last_of k.root e names >>= g)) before r after
-last_stop {k = k} e path g is h = via (sym (binds (parsed path) (last_of k.root e) g)) (stops g is h)
+pub last_stop : {B : Type 0} {k : Kernel} (e : Refused) (path : List ℕ) (g : Last → Plan B) {before : Option (List Touch)} {why : Refusal} {after : Option (List Touch)} {r : Result B Refusal} → IsErrAnd r (λ y. y ≡ why) → Comes k (last_at k.bounds.path_bytes k.root e path) before (Err why) after → Comes k (parsed k.bounds.path_bytes path >>= (λ names. last_of k.root e names >>= g)) before r after
+last_stop {k = k} e path g is h = via (sym (binds (parsed k.bounds.path_bytes path) (last_of k.root e) g)) (stops g is h)
 
 -- a test, and what comes next
 test_then : {A B : Type 0} (b : Bool) (e : Refused) (m : Plan A) (g : A → Plan B) → (refuse_if b e >> (m >>= g)) ≡ ((refuse_if b e >> m) >>= g)
@@ -51,6 +52,10 @@ three_then false false c g = refl
 
 pub tested_then : {B : Type 0} (target : List ℕ) (g : Plan B) → (refuse_if (is_empty target) ENOENT >> (refuse_if (nat_lt target_limit (length target)) ENAMETOOLONG >> (refuse_if (list_any (λ b. b == 0) target) EINVAL >> g))) ≡ (target_tested target >> g)
 tested_then target g = three_then (is_empty target) (nat_lt target_limit (length target)) (list_any (λ b. b == 0) target) g
+
+-- the target that was made of some bytes
+pub made_of : (made : Option (List ℕ)) (target bytes : List ℕ) → made ≡ Some target → IfSome made (λ t. t ≡ bytes) → target ≡ bytes
+made_of made target bytes is says = rw is at says
 
 -- what a symbolic link is like, by its target's length and by how many names it has
 abbrev pub link_with : ℕ → ℕ → ℕ → Plan Change

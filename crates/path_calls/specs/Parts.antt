@@ -10,18 +10,18 @@ use Rattle.model.specs.Plan.{◌>>=◌, ◌>>◌, refuse_if, or_refuse}
 use Rattle.model.specs.Walks.{Place, Last, is_directory, parsed, walk, last_of}
 use Rattle.model.specs.Changes.{Name_file, Make_fixed, Replaced, Over_nothing}
 use Rattle.model.specs.Calls.{Done}
-use Rattle.model.specs.Plans.{Change, changed, absent, moved, replaced_by_name, stated}
+use Rattle.model.specs.Plans.{Change, changed, absent, moved, replaced_by_name, stated, swapped}
 use Rattle.model.specs.Paths.{is_empty, is_below}
 
--- the place that a path leads to, and where its last name stands
-abbrev pub place_at : ℕ → List ℕ → Plan Place
-place_at root path = do
-  names ← parsed path
+-- the place that a path of at most so many bytes leads to, and where its last name stands
+abbrev pub place_at : ℕ → ℕ → List ℕ → Plan Place
+place_at most root path = do
+  names ← parsed most path
   walk (root, Some A_directory) names
 
-abbrev pub last_at : ℕ → Errno → List ℕ → Plan Last
-last_at root e path = do
-  names ← parsed path
+abbrev pub last_at : ℕ → ℕ → Errno → List ℕ → Plan Last
+last_at most root e path = do
+  names ← parsed most path
   last_of root e names
 
 -- the length of a symbolic link's target
@@ -56,9 +56,9 @@ target_tested target = do
   refuse_if (list_any (λ b. b == 0) target) EINVAL
 
 -- an object by its path whose content never changes
-abbrev pub made : ℕ → List ℕ → Fixed_content → Plan Change
-made root path fixed = do
-  names ← parsed path
+abbrev pub made : ℕ → ℕ → List ℕ → Fixed_content → Plan Change
+made most root path fixed = do
+  names ← parsed most path
   at ← last_of root EEXIST names
   absent at.found
   changed Done (Make_fixed at.parent at.name fixed 0 ∷ [])
@@ -81,6 +81,18 @@ rename_paths root from to = do
   refuse_if (is_directory what && is_below from to) EINVAL
   onto ← last_of root EBUSY to
   moved at what onto onto.found
+
+-- an exchange, after both paths are read
+abbrev pub exchange_paths : ℕ → List Name → List Name → Plan Change
+exchange_paths root from to = do
+  refuse_if (is_empty from || is_empty to) EBUSY
+  at ← last_of root EBUSY from
+  onto ← last_of root EBUSY to
+  what ← or_refuse ENOENT at.found
+  other ← or_refuse ENOENT onto.found
+  refuse_if (is_directory what && is_below from to) EINVAL
+  refuse_if (is_directory other && is_below to from) EINVAL
+  swapped at what onto other
 
 -- what loses its name to another
 abbrev pub replaced_over : Place → Place → Plan Replaced

@@ -55,14 +55,10 @@ pub(crate) fn rights<L: Look>(look: &L, inode: Num, reads: &mut Reads) -> Result
     Ok(look.rights(inode))
 }
 
-// The length of a symbolic link's target.
+// The length of a symbolic link's target. It reads the target, as it would be if it were told.
 pub(crate) fn target_length<L: Look>(look: &L, link: Num, reads: &mut Reads) -> Result<u32, Refusal>
     ensures { Comes (L.state look.now) (target_length link) reads.old result reads.new }
 {
-    let target = target(look, link, reads)?;
-    // For the proof: no call makes a target of 2^32 bytes, which a state alone does not say.
-    match u32::try_from(target.as_slice().len()) {
-        Ok(length) => Ok(length),
-        Err(_) => Err(Refusal::NoMemory),
-    }
+    reads.add(Aspect::Target(link))?;
+    Ok(look.target_len(link))
 }

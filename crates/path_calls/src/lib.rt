@@ -13,6 +13,7 @@ mod paths;
 mod rights;
 mod stats;
 mod steps;
+mod swaps;
 
 pub use asking::size;
 pub use change::{Change, Edits, changed, changed_by, unchanged};
@@ -21,3 +22,4 @@ pub use paths::{cut_to, link, list, mkdir, rename, rmdir, truncate, unlink};
 pub use rights::{chmod, chown, set_owner, set_permissions};
 pub use stats::{lstat, stat, status};
 pub use steps::{must_not_be_directory, must_not_be_special, parsed, refuse_if};
+pub use swaps::exchange;

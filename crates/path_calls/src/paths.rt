@@ -33,9 +33,9 @@ pub(crate) fn place_at<L: Look>(
     reads: &mut Reads,
 ) -> Result<(Num, Option<Kind>), Refusal>
     ensures { let k = L.state look.now in
-        Comes k (place_at k.root path.now) reads.old result reads.new }
+        Comes k (place_at k.bounds.path_bytes k.root path.now) reads.old result reads.new }
 {
-    let path = parsed(reads.heap(), path)?;
+    let path = parsed(look, reads.heap(), path)?;
     walk::walk(look, &path, reads)
 }
 
@@ -47,9 +47,9 @@ pub(crate) fn last_at<L: Look>(
     reads: &mut Reads,
 ) -> Result<Last, Refusal>
     ensures { let k = L.state look.now in
-        Comes k (last_at k.root of_root path.now) reads.old result reads.new }
+        Comes k (last_at k.bounds.path_bytes k.root of_root path.now) reads.old result reads.new }
 {
-    let path = parsed(reads.heap(), path)?;
+    let path = parsed(look, reads.heap(), path)?;
     walk_to_last(look, of_root, &path, reads)
 }
 
@@ -179,8 +179,8 @@ pub fn link<L: Look>(
         (plan (own (L.state look.now) pid (Link old.now path.now)) (Link old.now path.now))
         reads.old result reads.new }
 {
-    let from = parsed(reads.heap(), old)?;
-    let to = parsed(reads.heap(), path)?;
+    let from = parsed(look, reads.heap(), old)?;
+    let to = parsed(look, reads.heap(), path)?;
     let change = link_paths(look, &from, &to, reads);
     drop(to);
     drop(from);
@@ -221,8 +221,8 @@ pub fn rename<L: Look>(
         (plan (own (L.state look.now) pid (Rename old.now path.now)) (Rename old.now path.now))
         reads.old result reads.new }
 {
-    let from = parsed(reads.heap(), old)?;
-    let to = parsed(reads.heap(), path)?;
+    let from = parsed(look, reads.heap(), old)?;
+    let to = parsed(look, reads.heap(), path)?;
     let change = rename_paths(look, &from, &to, reads);
     drop(to);
     drop(from);

@@ -4,10 +4,11 @@ ghost use Rattle.model.specs.Plan.{refuse_if, ENOTDIR, EBUSY, EINVAL, EISDIR};
 ghost use Rattle.model.specs.Paths.{is_empty, is_below};
 ghost use Rattle.model.specs.Walks.{parsed, is_directory, is_link};
 ghost use Rattle.model.specs.Plans.{absent, is_special};
-ghost use Rattle.look.specs.Asked.{Tells};
+ghost use Rattle.look.specs.Asked.{Tells, TellsIn};
 
 use heap::Heap;
 use ids::{Bytes, Errno, Kind, Num, Refusal};
+use look::Look;
 use path::Path;
 
 /// A test: this refusal where it holds.
@@ -22,10 +23,10 @@ pub fn refuse_if(refused: bool, errno: Errno) -> Result<(), Refusal>
 }
 
 /// The names of a path, or why it is none.
-pub fn parsed(heap: Heap, path: &Bytes) -> Result<Path, Refusal>
-    ensures { Tells (parsed path.now) result }
+pub fn parsed<L: Look>(look: &L, heap: Heap, path: &Bytes) -> Result<Path, Refusal>
+    ensures { let k = L.state look.now in TellsIn k (parsed k.bounds.path_bytes path.now) result }
 {
-    Path::parse(heap, path.as_slice())
+    Path::parse(heap, path.as_slice(), look.path_limit())
 }
 
 // A name that must not be there.

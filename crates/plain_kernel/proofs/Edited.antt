@@ -1,8 +1,8 @@
 -- What the code makes of a kernel by each edit is what the edit makes.
-use Rattle.std.proofs.Common.{◌≡◌, ℕ, ◌+◌, ◌≤◌, List, [], ◌++◌, length, get_or, drop, ap, sym, subst, ◌∙◌}
+use Rattle.std.proofs.Common.{◌≡◌, ℕ, ◌+◌, ◌≤◌, List, [], ◌++◌, length, get_or, drop, replicate, ap, sym, subst, ◌∙◌}
 use Rattle.model.specs.FiniteMap.{FinMap, get, empty, insert, remove}
 use Rattle.model.specs.State.{Name, name_cmp, Kernel, Inode, File, Directory, Pipe, Fixed, Fixed_content, Description, Rights, file_of, pipe_of}
-use Rattle.model.specs.Changes.{Edit, Which, Mode, Replaced, Make_directory, Make_file, Make_fixed, Name_file, Unname_file, Unname_directory, Move, Put_bytes, Cut, Take, Append, Set_offset, Set_rights, Open_inode, Make_pipe, Share_slot, Clear_slot, New_process, End_process}
+use Rattle.model.specs.Changes.{Edit, Which, Mode, Replaced, Make_directory, Make_file, Make_fixed, Name_file, Unname_file, Unname_directory, Move, Swap, Put_bytes, Wipe, Cut, Take, Append, Set_offset, Set_rights, Open_inode, Make_pipe, Share_slot, Clear_slot, New_process, End_process}
 use Rattle.model.specs.Changes.{applied, at_start, clear_name, number, open_at, process_of, set_description, set_inode, set_name, set_offset, set_process, set_rights, sized, to_read, to_write, with_slot, without_slot, written}
 use Rattle.model.specs.Limits.{largest_file}
 use Rattle.plain_kernel.specs.Edits.{EndsWithin}
@@ -44,6 +44,14 @@ module _ (chosen : List ℕ) (k after : Kernel) where
   pub moves : (d : ℕ) (x : Name) (e : ℕ) (y : Name) (n : ℕ) (replaced : Replaced) → after ≡ set_name e y n (clear_name d x k) → after ≡ applied chosen (Move d x e y n replaced) k
   unfolding applied
   moves d x e y n replaced h = h
+
+  pub swaps : (d : ℕ) (x : Name) (n e : ℕ) (y : Name) (m : ℕ) → after ≡ set_name e y n (set_name d x m k) → after ≡ applied chosen (Swap d x n e y m) k
+  unfolding applied
+  swaps d x n e y m h = h
+
+  pub wipes : (n offset count : ℕ) → after ≡ set_inode n (File (written (file_of k n) offset (replicate count 0))) k → after ≡ applied chosen (Wipe n offset count) k
+  unfolding applied
+  wipes n offset count h = h
 
   pub puts : (n offset : ℕ) (bytes old : List ℕ) (before : ℕ) → old ≡ bytes → after ≡ set_inode n (File (written (file_of k n) offset old)) k → after ≡ applied chosen (Put_bytes n offset bytes before) k
   unfolding applied
@@ -103,6 +111,9 @@ module _ (chosen : List ℕ) (k after : Kernel) where
 -- a write or a cut among edits that end so
 pub put_ends : (e : Edit) (n offset : ℕ) (bytes old : List ℕ) (before : ℕ) → e ≡ Put_bytes n offset bytes before → old ≡ bytes → EndsWithin e → offset + length old ≤ largest_file
 put_ends e n offset bytes old before is same h = subst (λ (bs : List ℕ). offset + length bs ≤ largest_file) (sym same) (subst EndsWithin is h)
+
+pub wipe_ends : (e : Edit) (n offset count : ℕ) → e ≡ Wipe n offset count → EndsWithin e → offset + count ≤ largest_file
+wipe_ends e n offset count is h = subst EndsWithin is h
 
 pub cut_ends : (e : Edit) (n before len : ℕ) → e ≡ Cut n before len → EndsWithin e → len ≤ largest_file
 cut_ends e n before len is h = subst EndsWithin is h

@@ -7,6 +7,8 @@ mod Trees
 mod Keyed
 mod Linked
 mod Opened
+mod LowestFree
+mod Rising
 mod Holding
 mod Slots
 mod Setting

@@ -19,7 +19,7 @@ one_process ps i p level t m new low is none same made =
 -- the state of these parts
 pub started : (root made : ℕ) (setup : Setup) (is : FinMap nat_cmp Inode) (rs : FinMap nat_cmp Rights) (ds : FinMap nat_cmp Description) (ps : FinMap nat_cmp Process)
     → is ≡ insert empty root (Directory empty) → rs ≡ empty → ds ≡ empty → ps ≡ with_processes 0 setup.priorities empty → made ≡ length setup.priorities
-    → ◌≡◌ {A = Kernel} (record { root = root; inodes = is; rights = rs; descriptions = ds; processes = ps; made = made; largest = setup.largest }) (start root setup)
+    → ◌≡◌ {A = Kernel} (record { root = root; inodes = is; rights = rs; descriptions = ds; processes = ps; made = made; bounds = setup.bounds }) (start root setup)
 started root made setup is rs ds ps inodes unset none processes count = λ i. record {
   root = root;
   inodes = inodes i;
@@ -27,5 +27,5 @@ started root made setup is rs ds ps inodes unset none processes count = λ i. re
   descriptions = none i;
   processes = processes i;
   made = count i;
-  largest = setup.largest;
+  bounds = setup.bounds;
 }

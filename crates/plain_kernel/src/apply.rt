@@ -1,6 +1,6 @@
 // What each edit makes of a plain kernel.
 ghost use Rattle.std.specs.Prelude.{◌≡◌, ◌++◌, IfOk, OnOk, Some, [], get_or, true, drop, option_copied};
-ghost use Rattle.std.specs.Prelude.{◌+◌, ◌≤◌, false, length};
+ghost use Rattle.std.specs.Prelude.{◌+◌, ◌≤◌, false, length, replicate};
 ghost use Rattle.model.specs.FiniteMap.{empty, get, insert, remove};
 ghost use Rattle.model.specs.Limits.{largest_file};
 ghost use Rattle.model.specs.State.{File as A_file, Pipe as A_pipe};
@@ -107,6 +107,18 @@ impl PlainKernel {
         let inode = self.take_inode(heap, file)?;
         let mut stored = file_out(heap, inode);
         stored.write_at(offset, bytes)?;
+        self.set_inode(file, Inode::file(stored))
+    }
+
+    // Bytes of a file become zero.
+    fn wipe(&mut self, heap: Heap, file: Num, offset: usize, count: usize) -> Result<(), AllocError>
+        requires { offset + count ≤ largest_file }
+        ensures { OnOk result (self.new ≡ set_inode file
+            (A_file (written (file_of self.old file) offset (replicate count 0))) self.old) }
+    {
+        let inode = self.take_inode(heap, file)?;
+        let mut stored = file_out(heap, inode);
+        stored.wipe(offset, count);
         self.set_inode(file, Inode::file(stored))
     }
 
@@ -359,6 +371,17 @@ impl PlainKernel {
                 self.clear_name(heap, *from, old_name)?;
                 self.set_name(heap, *to, new_name, *inode)
             }
+            Edit::Swap {
+                first,
+                first_name,
+                first_inode,
+                second,
+                second_name,
+                second_inode,
+            } => {
+                self.set_name(heap, *first, first_name, *second_inode)?;
+                self.set_name(heap, *second, second_name, *first_inode)
+            }
             _ => self.apply_to_bytes(heap, edit, chosen),
         }
     }
@@ -376,6 +399,11 @@ impl PlainKernel {
                 bytes,
                 ..
             } => self.put(heap, *file, *offset as usize, bytes.as_slice()),
+            Edit::Wipe {
+                file,
+                offset,
+                count,
+            } => self.wipe(heap, *file, *offset as usize, *count as usize),
             Edit::Cut { file, length, .. } => self.cut(heap, *file, *length as usize),
             Edit::Take { pipe, count } => self.take(heap, *pipe, *count as usize),
             Edit::Append { pipe, bytes } => self.append(heap, *pipe, bytes.as_slice()),

@@ -1,8 +1,10 @@
 // An inode of the plain kernel.
 ghost use Rattle.std.specs.Prelude.{◌≡◌, ℕ, ◌+◌, ◌-◌, ◌<◌, ◌≤◌, ◌^◌, option_copied, IfOk};
 ghost use Rattle.std.specs.Prelude.{[], drop, length, take};
+ghost use Rattle.ids.specs.declared.limits.TheConstants.{LARGEST_FILE, TARGET_LIMIT};
 ghost use Rattle.objects.specs.declared.run.TheConstants.{LARGEST_RUN};
 ghost use Rattle.model.specs.FiniteMap.{get, keys};
+ghost use Rattle.model.specs.Holes.{alike_from};
 ghost use Rattle.model.specs.Paths.{is_empty};
 ghost use Rattle.model.specs.State.{Inode, File as A_file, Directory as A_directory, mapped};
 ghost use Rattle.model.specs.State.{Pipe as A_pipe, Fixed as A_fixed, kind, file_of_inode};
@@ -191,6 +193,32 @@ pub(crate) fn read_in(
     }
 }
 
+// How many blocks of a file from one on, so many at most, are holes, or are none.
+pub(crate) fn passed_in(
+    heap: Heap,
+    inode: Option<&Inode>,
+    holes: bool,
+    first: u32,
+    count: u32,
+) -> u32
+    requires { first + count ≤ LARGEST_FILE }
+    ensures value { result
+        ≡ alike_from holes (file_of_inode (option_copied inode.entry)) first count }
+    ensures small { result ≤ count }
+{
+    let none = FileData::new(heap);
+    let stored = match inode {
+        Some(inode) => match &inode.content {
+            Content::File(stored) => stored,
+            Content::Directory(_) => &none,
+            Content::Pipe(_) => &none,
+            Content::Fixed(_) => &none,
+        },
+        None => &none,
+    };
+    stored.pass(holes, first as usize, count as usize) as u32
+}
+
 // The bytes of a pipe.
 pub(crate) fn pipe_in(inode: Option<&Inode>) -> &[u8]
     ensures { result.now ≡ pipe_of_inode (option_copied inode.entry) }
@@ -208,7 +236,8 @@ pub(crate) fn pipe_in(inode: Option<&Inode>) -> &[u8]
 
 // The target of a symbolic link.
 pub(crate) fn target_in(inode: Option<&Inode>) -> &[u8]
-    ensures { result.now ≡ target_of_inode (option_copied inode.entry) }
+    ensures value { result.now ≡ target_of_inode (option_copied inode.entry) }
+    ensures small { length result.now ≤ TARGET_LIMIT }
 {
     match inode {
         Some(inode) => match &inode.content {

@@ -1,6 +1,6 @@
 // The plain kernel: whole maps. How many names give each number is counted as names come and go, how
 // many descriptions open it and how many descriptors give each description likewise.
-ghost use Rattle.std.specs.Prelude.{◌≡◌, ◌+◌, ◌≤◌, nat_lt, IfOk, Some, None, option_copied};
+ghost use Rattle.std.specs.Prelude.{◌≡◌, ◌≢◌, ◌+◌, ◌<◌, ◌≤◌, ℕ, nat_lt, IfOk, Some, None, option_copied};
 ghost use Rattle.ids.specs.declared.limits.TheConstants.{LARGEST_FILE};
 ghost use Rattle.model.specs.FiniteMap.{get};
 ghost use Rattle.model.specs.State.{Kernel, Description as Opened, ends, is_end, links, kind_of};
@@ -12,13 +12,15 @@ ghost use Rattle.plain_kernel.specs.Counts.{given_by};
 use crate::descriptions::Descriptions;
 use crate::holders::Holders;
 use crate::inode::{
-    given_in, is_empty_in, kind_in, names_in, pipe_in, read_in, size_in, target_in,
+    given_in, is_empty_in, kind_in, names_in, passed_in, pipe_in, read_in, size_in, target_in,
 };
 use crate::inodes::Inodes;
 use crate::table::Table;
 use crate::tree::Tree;
 use heap::Heap;
-use ids::{Bytes, DESCRIPTORS, Fd, Kind, Name, NameList, Num, PIPE_CAPACITY, Pid, Rights, Slot};
+use ids::{
+    Bounds, Bytes, DESCRIPTORS, Fd, Kind, Name, NameList, Num, PIPE_CAPACITY, Pid, Rights, Slot,
+};
 use look::Look;
 use std::alloc::AllocError;
 use std::marker::Model;
@@ -92,7 +94,7 @@ pub struct PlainKernel {
     pub(crate) processes: Tree<Process>,
     pub(crate) holders: Holders,
     pub(crate) made: u32,
-    pub(crate) largest: u32,
+    pub(crate) bounds: Bounds,
 }
 
 impl Drop for PlainKernel {
@@ -105,7 +107,7 @@ impl Drop for PlainKernel {
             processes: _,
             holders: _,
             made: _,
-            largest: _,
+            bounds: _,
         } = self;
     }
 }
@@ -125,10 +127,10 @@ impl Model for PlainKernel {
       descriptions = k.descriptions;
       processes = k.processes;
       made = k.made;
-      largest = k.largest;
+      bounds = k.bounds;
     } };
 
-    ghost invariant = { λ k. (k.largest ≤ LARGEST_FILE)
+    ghost invariant = { λ k. (k.bounds.file_bytes ≤ LARGEST_FILE)
         × AreHoldersOf k.descriptions k.processes k.holders };
 }
 
@@ -149,10 +151,23 @@ impl PlainKernel {
 
     /// The most bytes of a file.
     pub fn largest_file(&self) -> u32
-        ensures value { result ≡ self.now.largest }
+        ensures value { result ≡ self.now.bounds.file_bytes }
         ensures bound { result ≤ LARGEST_FILE }
     {
-        self.largest
+        self.bounds.file_bytes
+    }
+
+    // The lowest descriptor of a process from this one on that is not open, whatever the limit.
+    fn lowest(&self, pid: Pid, first: Fd) -> usize
+        ensures from { first ≤ result }
+        ensures free { get (process_of self.now pid).table result ≡ None }
+        ensures open { (f : ℕ) → first ≤ f → f < result
+            → get (process_of self.now pid).table f ≢ None }
+    {
+        match self.processes.get(key_of(pid)) {
+            Some(process) => process.table.free_from(first.0),
+            None => first.0 as usize,
+        }
     }
 
     // What never changes of a description, with its inode's kind.
@@ -234,7 +249,15 @@ impl Look for PlainKernel {
     }
 
     fn largest(&self) -> u32 {
-        self.largest
+        self.bounds.file_bytes
+    }
+
+    fn open_limit(&self) -> u32 {
+        self.bounds.descriptors.min(DESCRIPTORS as u32)
+    }
+
+    fn path_limit(&self) -> u32 {
+        self.bounds.path_bytes
     }
 
     fn find(&self, dir: Num, name: &Name) -> Option<(Num, Option<Kind>)> {
@@ -264,6 +287,17 @@ impl Look for PlainKernel {
         count: u32,
     ) -> Result<Bytes, AllocError> {
         read_in(heap, self.inodes.get(file), offset, count)
+    }
+
+    fn pass(
+        &self,
+        heap: Heap,
+        file: Num,
+        holes: bool,
+        first: u32,
+        count: u32,
+    ) -> Result<u32, AllocError> {
+        Ok(passed_in(heap, self.inodes.get(file), holes, first, count))
     }
 
     fn links(&self, file: Num) -> Result<u32, AllocError> {
@@ -297,6 +331,10 @@ impl Look for PlainKernel {
         Bytes::copy(heap, target_in(self.inodes.get(link)))
     }
 
+    fn target_len(&self, link: Num) -> u32 {
+        target_in(self.inodes.get(link)).len() as u32
+    }
+
     fn rights(&self, inode: Num) -> Rights {
         match self.rights.get(inode) {
             Some(rights) => *rights,
@@ -311,14 +349,13 @@ impl Look for PlainKernel {
         }
     }
 
-    // It looks for one descriptor after the other, from the first to the answer: for 64 at most.
     fn free_from(&self, pid: Pid, first: Fd) -> Option<Fd> {
-        for number in first.0..DESCRIPTORS as u32 {
-            if self.given(pid, Fd(number)).is_none() {
-                return Some(Fd(number));
-            }
+        let free = self.lowest(pid, first);
+        if free < self.open_limit() as usize {
+            Some(Fd(free as u32))
+        } else {
+            None
         }
-        None
     }
 
     fn table(&self, heap: Heap, pid: Pid) -> Result<Vec<(Fd, Slot), Heap>, AllocError> {

@@ -14,7 +14,7 @@ use crate::plain::{PlainKernel, Process, small};
 use crate::table::Table;
 use crate::tree::Tree;
 use heap::Heap;
-use ids::{Num, Priority};
+use ids::{Bounds, Num, Priority};
 use std::alloc::AllocError;
 
 // A process without descriptors for each of these priorities.
@@ -52,16 +52,16 @@ fn first_inodes(heap: Heap, root: Num) -> Result<Inodes, AllocError>
 
 impl PlainKernel {
     /// The empty root alone, of this number, and a process without descriptors for each of these
-    /// priorities, where files have at most `largest` bytes. Refused memory gives nothing.
+    /// priorities, within these bounds. Refused memory gives nothing.
     pub fn new(
         heap: Heap,
         root: Num,
         priorities: &[Priority],
-        largest: u32,
+        bounds: Bounds,
     ) -> Result<PlainKernel, AllocError>
-        requires { largest ≤ LARGEST_FILE }
+        requires { bounds.file_bytes ≤ LARGEST_FILE }
         ensures { IfOk result (λ kernel. kernel
-            ≡ start root (record { priorities = priorities.now; largest = largest })) }
+            ≡ start root (record { priorities = priorities.now; bounds = bounds })) }
     {
         let made = small(priorities.len())?;
         let processes = first_processes(heap, priorities)?;
@@ -76,7 +76,7 @@ impl PlainKernel {
                     processes,
                     holders: Holders::new(heap),
                     made,
-                    largest,
+                    bounds,
                 })
             }
             Err(refused) => {

@@ -1,8 +1,8 @@
 // A map from numbers to values: a vector in the order of the numbers.
-ghost use Rattle.std.specs.Prelude.{◌≡◌, IsTrue, MatchResult, IfOk, OnErr, OnOk, option_copied};
+ghost use Rattle.std.specs.Prelude.{◌≡◌, ◌≢◌, ◌<◌, ◌≤◌, ℕ, None, IsTrue, MatchResult, length, IfOk, OnErr, OnOk, option_copied};
 ghost use Rattle.std.specs.Ordering.{nat_cmp};
 ghost use Rattle.model.specs.FiniteMap as map;
-ghost use Rattle.plain_kernel.specs.Indices.{IsIndexOf, IsIndexFor};
+ghost use Rattle.plain_kernel.specs.Indices.{IsIndexOf, IsIndexFor, rank};
 
 use heap::Heap;
 use ids::Num;
@@ -93,6 +93,30 @@ impl<T: Drop> Table<T> {
         }
     }
 
+    // The lowest number from this one on that stands for nothing. It is found by halving: the numbers
+    // rise, so one stands as far behind the first as its place only where all between are there.
+    pub(crate) fn free_from(&self, first: u32) -> usize
+        ensures from { first ≤ result }
+        ensures free { map.get self.now result ≡ None }
+        ensures taken { (n : ℕ) → first ≤ n → n < result → map.get self.now n ≢ None }
+    {
+        let first = first as usize;
+        let slots = self.slots.as_slice();
+        let start = place_of(slots, Num(first));
+        let mut low = start;
+        let mut high = slots.len();
+        while low < high {
+            let middle = low + (high - low) / 2;
+            let num = slots[middle].0;
+            if num.0 - first == middle - start {
+                low = middle + 1;
+            } else {
+                high = middle;
+            }
+        }
+        first + (low - start)
+    }
+
     /// All numbers with their values, rising.
     pub fn as_slice(&self) -> &[(Num, T)]
         ensures { result.now ≡ map.entries self.now }
@@ -109,6 +133,18 @@ impl Table<Num> {
         Ok(Table {
             slots: Vec::from_slice(heap, self.slots.as_slice())?,
         })
+    }
+}
+
+// How many numbers are lower.
+fn place_of<T>(slots: &[(Num, T)], num: Num) -> usize
+    requires { IsTrue (map.is_sorted nat_cmp slots.now) }
+    ensures value { result ≡ rank nat_cmp num slots.now }
+    ensures within { result ≤ length slots.now }
+{
+    match index_of(slots, num) {
+        Ok(index) => index,
+        Err(index) => index,
     }
 }
 

@@ -59,7 +59,7 @@ begins_on a b c f g = record {
   priorities = g.priorities ∙ f.priorities;
   limit = g.limit ∙ f.limit;
   forgotten = g.forgotten ∙ f.forgotten;
-  largest = g.largest ∙ f.largest;
+  bounds = g.bounds ∙ f.bounds;
   entries = before_is_an_order.through a.entries b.entries c.entries f.entries g.entries;
 }
 
@@ -68,6 +68,6 @@ begins_with h g is = subst (λ (l : Log). Begins h l) (sym is) (record {
   priorities = refl;
   limit = refl;
   forgotten = refl;
-  largest = refl;
+  bounds = refl;
   entries = before_is_an_order.itself h.entries;
 })

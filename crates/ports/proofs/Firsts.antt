@@ -16,6 +16,7 @@ use Rattle.script.specs.Contents.{ScriptContents}
 use Rattle.turnstile.specs.Calls.{KeepsPass, first_pass, first_passes, has_pass, living_numbers}
 use Rattle.turnstile.specs.Histories.{Begins, IsLegal}
 use Rattle.turnstile.specs.Passes.{Gate, PassView}
+use Rattle.ids.specs.Bounds.{bounds_of}
 
 below_among : (test : ℕ → Bool) (n q : ℕ) → test q ≡ true → q < n → Among (all_below test n) q
 below_among test zero q holds low = absurd (omega arith)
@@ -54,11 +55,11 @@ firsts_begun g (q ∷ qs) = (refl, firsts_begun g qs)
 
 -- what the kernel of a run is given
 abbrev pub setup_for : ScriptContents → Limits → Setup
-setup_for script limits = record { priorities = script.priorities; largest = limits.file_bytes }
+setup_for script limits = record { priorities = script.priorities; bounds = bounds_of limits }
 
 -- the kernel that a turnstile begins with has no entry
 pub record IsFresh (script : ScriptContents) (limits : Limits) (g : Gate) : Type 0 where
-  pub gate : g.start ≡ record { entries = []; priorities = script.priorities; limit = limits.entries; forgotten = []; largest = limits.file_bytes }
+  pub gate : g.start ≡ record { entries = []; priorities = script.priorities; limit = limits.entries; forgotten = []; bounds = bounds_of limits }
   pub some : 0 < length script.priorities
   pub few : length script.priorities ≤ MAX_PROCESSES
 
@@ -84,7 +85,7 @@ has_run script limits g passes log fresh came begun kept legal =
       legal = legal.legal;
       same_priorities = priorities;
       same_limit = grown.limit ∙ ap (λ (l : Log). l.limit) start_is;
-      same_largest = grown.largest ∙ ap (λ (l : Log). l.largest) start_is;
+      same_bounds = grown.bounds ∙ ap (λ (l : Log). l.bounds) start_is;
       whole = grown.forgotten ∙ ap (λ (l : Log). l.forgotten) start_is;
       works = works script.lines g initial passes log worked kept legal.legal
           (λ q positive low. living setup fresh.few q positive (subst (λ (ps : List ℕ). q ≤ length ps) priorities low));

@@ -1,5 +1,5 @@
 -- No name and no description gives the root, also after a step that gives it to none.
-use Rattle.std.proofs.Common.{◌≡◌, ◌≢◌, ℕ, ◌+◌, ◌<◌, Bool, true, false, cond, List, [], ◌∷◌, ◌++◌, length, get_or, drop, Option, Some, None, refl, sym, ap, ◌∙◌, arith, inl, inr, nat_cmp}
+use Rattle.std.proofs.Common.{◌≡◌, ◌≢◌, ℕ, ◌+◌, ◌<◌, Bool, true, false, cond, List, [], ◌∷◌, ◌++◌, length, get_or, drop, replicate, Option, Some, None, refl, sym, ap, ◌∙◌, arith, inl, inr, nat_cmp}
 use Rattle.std.specs.List.{AllByRecursion}
 use Rattle.std.specs.Prelude.{⊤}
 use Rattle.std.specs.Ordering.{eq_by_cmp}
@@ -7,7 +7,7 @@ use Rattle.std.specs.Cmp.Lexicographic.{nat_list_cmp_total}
 use Rattle.std.proofs.lemmas.Bool.{cases_eq}
 use Rattle.model.specs.FiniteMap.{get, empty, insert, remove, get-empty, get-insert, get-remove}
 use Rattle.model.specs.State.{Name, name_cmp, Kernel, Inode, File, Directory, Pipe, Fixed, Fixed_content, Description, names_of_inode, names_of, file_of, pipe_of}
-use Rattle.model.specs.Changes.{Edit, There, Made, Mode, Make_directory, Make_file, Make_fixed, Name_file, Unname_file, Unname_directory, Move, Put_bytes, Cut, Take, Append, Set_offset, Set_rights, Open_inode, Make_pipe, Share_slot, Clear_slot, New_process, End_process, number, sized, written, set_inode, set_name, clear_name, set_offset, set_description, at_start, open_at, to_read, to_write, is_held, applied, all_applied, tidy}
+use Rattle.model.specs.Changes.{Edit, There, Made, Mode, Make_directory, Make_file, Make_fixed, Name_file, Unname_file, Unname_directory, Swap, Wipe, Move, Put_bytes, Cut, Take, Append, Set_offset, Set_rights, Open_inode, Make_pipe, Share_slot, Clear_slot, New_process, End_process, number, sized, written, set_inode, set_name, clear_name, set_offset, set_description, at_start, open_at, to_read, to_write, is_held, applied, all_applied, tidy}
 use Rattle.model.specs.Moments.{Setup, start}
 use Rattle.model.proofs.Laws.{get_same, get_other}
 use Rattle.call_laws.proofs.Laws.{empty_gives, get_tidy, reached, retained_some, some_same}
@@ -17,6 +17,7 @@ use Rattle.renaming_laws.specs.Laws.{HasNumbers}
 abbrev pub GivesNot : ℕ → Edit → Type 0
 GivesNot root (Name_file d x n) = n ≢ root
 GivesNot root (Move d x e y n replaced) = n ≢ root
+GivesNot root (Swap d x n e y m) = (n ≢ root) × (m ≢ root)
 GivesNot root (Open_inode i (There n) mode pid fd) = n ≢ root
 GivesNot root _ = ⊤
 
@@ -107,7 +108,9 @@ module _ (root : ℕ) where
   edit_keeps chosen k (Unname_file d x n) away low give h = name_cleared d x k h
   edit_keeps chosen k (Unname_directory d x n) away low give h = name_cleared d x k h
   edit_keeps chosen k (Move d x e y n replaced) away low give h = name_put e y n (clear_name d x k) give (name_cleared d x k h)
+  edit_keeps chosen k (Swap d x n e y m) away low give h = name_put e y n (set_name d x m k) give.0 (name_put d x m k give.1 h)
   edit_keeps chosen k (Put_bytes n place bytes before) away low give h = bytes_put n (written (file_of k n) place bytes) k h
+  edit_keeps chosen k (Wipe n place count) away low give h = bytes_put n (written (file_of k n) place (replicate count 0)) k h
   edit_keeps chosen k (Cut n before after) away low give h = bytes_put n (sized after (file_of k n)) k h
   edit_keeps chosen k (Take p count) away low give h = pipe_put p (drop count (pipe_of k p)) k h
   edit_keeps chosen k (Append p bytes) away low give h = pipe_put p (pipe_of k p ++ bytes) k h

@@ -1,9 +1,9 @@
 -- A run never chooses its root's number, since the root is always there.
-use Rattle.std.proofs.Common.{◌≡◌, ◌≢◌, ℕ, cond, List, [], ◌∷◌, ◌++◌, drop, Option, Some, None, refl, sym, ap, subst, ◌∙◌}
+use Rattle.std.proofs.Common.{◌≡◌, ◌≢◌, ℕ, cond, List, [], ◌∷◌, ◌++◌, drop, replicate, Option, Some, None, refl, sym, ap, subst, ◌∙◌}
 use Rattle.std.specs.List.{AllByRecursion}
 use Rattle.model.specs.FiniteMap.{get, empty, insert, remove}
 use Rattle.model.specs.State.{Kernel, Inode, File, Directory, Pipe, Fixed, Description, names_of, file_of, pipe_of}
-use Rattle.model.specs.Changes.{Edit, Make_directory, Make_file, Make_fixed, Name_file, Unname_file, Unname_directory, Move, Put_bytes, Cut, Take, Append, Set_offset, Set_rights, Open_inode, Make_pipe, Share_slot, Clear_slot, New_process, End_process, number, Made, sized, written, set_inode, set_name, clear_name, set_offset, applied, all_applied, tidy}
+use Rattle.model.specs.Changes.{Edit, Make_directory, Make_file, Make_fixed, Name_file, Unname_file, Unname_directory, Swap, Wipe, Move, Put_bytes, Cut, Take, Append, Set_offset, Set_rights, Open_inode, Make_pipe, Share_slot, Clear_slot, New_process, End_process, number, Made, sized, written, set_inode, set_name, clear_name, set_offset, applied, all_applied, tidy}
 use Rattle.model.specs.Steps.{edits, IsNowhere, Item, Run}
 use Rattle.model.specs.Moments.{Setup, start}
 use Rattle.model.proofs.Laws.{get_same}
@@ -37,7 +37,9 @@ module _ (root : ℕ) where
   edit_keeps chosen k (Unname_file d x n) h = name_cleared d x k h
   edit_keeps chosen k (Unname_directory d x n) h = name_cleared d x k h
   edit_keeps chosen k (Move d x e y n replaced) h = name_put e y n (clear_name d x k) (name_cleared d x k h)
+  edit_keeps chosen k (Swap d x n e y m) h = name_put e y n (set_name d x m k) (name_put d x m k h)
   edit_keeps chosen k (Put_bytes n place bytes before) h = inode_put n (File (written (file_of k n) place bytes)) k h
+  edit_keeps chosen k (Wipe n place count) h = inode_put n (File (written (file_of k n) place (replicate count 0))) k h
   edit_keeps chosen k (Cut n before after) h = inode_put n (File (sized after (file_of k n))) k h
   edit_keeps chosen k (Take p count) h = inode_put p (Pipe (drop count (pipe_of k p))) k h
   edit_keeps chosen k (Append p bytes) h = inode_put p (Pipe (pipe_of k p ++ bytes)) k h

@@ -1,12 +1,12 @@
 -- Each edit, and tidying, in a renamed state.
-use Rattle.std.proofs.Common.{◌≡◌, ℕ, ◌+◌, ◌||◌, nat_lt, List, [], ◌∷◌, ◌++◌, map, length, get_or, drop, Option, Some, None, refl, sym, ap, ap₂, ◌∙◌, arith}
+use Rattle.std.proofs.Common.{◌≡◌, ℕ, ◌+◌, ◌||◌, nat_lt, List, [], ◌∷◌, ◌++◌, map, length, get_or, drop, replicate, Option, Some, None, refl, sym, ap, ap₂, ◌∙◌, arith}
 use Rattle.std.specs.List.{AllByRecursion}
 use Rattle.std.specs.Cmp.{nat_cmp_total}
 use Rattle.std.specs.Cmp.Lexicographic.{nat_list_cmp_total}
 use Rattle.std.proofs.lemmas.List.{get_or-map}
 use Rattle.model.specs.FiniteMap.{get, empty, insert, remove, nat_cmp-IsAntisymmetric}
 use Rattle.model.specs.State.{Name, Kernel, Inode, File, Directory, Pipe, Fixed, Description, Process, Rights, mapped, names_of, file_of, pipe_of}
-use Rattle.model.specs.Changes.{Which, There, Made, Mode, Edit, Make_directory, Make_file, Make_fixed, Name_file, Unname_file, Unname_directory, Move, Put_bytes, Cut, Take, Append, Set_offset, Set_rights, Open_inode, Make_pipe, Share_slot, Clear_slot, New_process, End_process, number, sized, written, set_inode, set_name, clear_name, set_process, set_offset, set_rights, process_of, with_slot, without_slot, at_start, set_description, open_at, to_read, to_write, applied, all_applied, is_held, is_reached, without_descriptions, without_inodes, tidy}
+use Rattle.model.specs.Changes.{Which, There, Made, Mode, Edit, Make_directory, Make_file, Make_fixed, Name_file, Unname_file, Unname_directory, Swap, Wipe, Move, Put_bytes, Cut, Take, Append, Set_offset, Set_rights, Open_inode, Make_pipe, Share_slot, Clear_slot, New_process, End_process, number, sized, written, set_inode, set_name, clear_name, set_process, set_offset, set_rights, process_of, with_slot, without_slot, at_start, set_description, open_at, to_read, to_write, applied, all_applied, is_held, is_reached, without_descriptions, without_inodes, tidy}
 use Rattle.model.proofs.Laws.{name_exact}
 use Rattle.renaming_laws.specs.Renaming.{IsRenaming, renamed_inode, renamed_description, renamed_process, renamed}
 use Rattle.renaming_laws.specs.Renamed.{renamed_which, renamed_edit}
@@ -84,7 +84,9 @@ module _ (f : ℕ → ℕ) (r : IsRenaming f) where
   edit_renamed k chosen (Unname_file d x n) h = name_cleared d x k
   edit_renamed k chosen (Unname_directory d x n) h = name_cleared d x k
   edit_renamed k chosen (Move d x e y n replaced) h = ap (set_name (f e) y (f n)) (name_cleared d x k) ∙ name_set e y n (clear_name d x k)
+  edit_renamed k chosen (Swap d x n e y m) h = ap (set_name (f e) y (f n)) (name_set d x m k) ∙ name_set e y n (set_name d x m k)
   edit_renamed k chosen (Put_bytes n place bytes before) h = ap (λ old. set_inode (f n) (File (written old place bytes)) (renamed f k)) (file_at f r k n) ∙ inode_set n (File (written (file_of k n) place bytes)) k
+  edit_renamed k chosen (Wipe n place count) h = ap (λ old. set_inode (f n) (File (written old place (replicate count 0))) (renamed f k)) (file_at f r k n) ∙ inode_set n (File (written (file_of k n) place (replicate count 0))) k
   edit_renamed k chosen (Cut n before after) h = ap (λ old. set_inode (f n) (File (sized after old)) (renamed f k)) (file_at f r k n) ∙ inode_set n (File (sized after (file_of k n))) k
   edit_renamed k chosen (Take p count) h = ap (λ old. set_inode (f p) (Pipe (drop count old)) (renamed f k)) (pipe_at f r k p) ∙ inode_set p (Pipe (drop count (pipe_of k p))) k
   edit_renamed k chosen (Append p bytes) h = ap (λ old. set_inode (f p) (Pipe (old ++ bytes)) (renamed f k)) (pipe_at f r k p) ∙ inode_set p (Pipe (pipe_of k p ++ bytes)) k

@@ -1,6 +1,7 @@
 -- A state in which a descriptor gives no description: there a call tells the numbers apart.
 use Rattle.std.proofs.Common.{◌≡◌, ℕ, pos, [], ◌∷◌, Result, Ok, refl, sym, ap, ◌∙◌}
 use Rattle.model.specs.FiniteMap.{empty, insert, computes}
+use Rattle.model.specs.Limits.{default_bounds}
 use Rattle.model.specs.State.{Kernel, File}
 use Rattle.model.specs.Plan.{Errno}
 use Rattle.model.specs.Calls.{Lseek, From_end, Answer, New_place}
@@ -18,7 +19,7 @@ astray = record {
   descriptions = empty;
   processes = insert empty 1 (record { table = insert empty 3 9; priority = 0 });
   made = 1;
-  largest = 1;
+  bounds = default_bounds;
 }
 
 before : reply astray 1 (Lseek 3 (pos 0) From_end) ≡ Ok (New_place 1)

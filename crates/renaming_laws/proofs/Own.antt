@@ -8,7 +8,7 @@ use Rattle.model.specs.FiniteMap.{get, entries, nat_cmp-IsAntisymmetric}
 use Rattle.model.specs.State.{Kernel, Description, Process, mapped}
 use Rattle.model.specs.Changes.{process_of}
 use Rattle.model.specs.Calls.{Call, Fork, Slot, Own, slot_of, birth_of, own}
-use Rattle.model.specs.Plans.{free_from, free, descriptor_limit, slot_at, is_pipe, pipe_in, each_once, pipes_in}
+use Rattle.model.specs.Plans.{free_from, free, open_limit, slot_at, is_pipe, pipe_in, each_once, pipes_in}
 use Rattle.model.proofs.Laws.{all_entries}
 use Rattle.renaming_laws.specs.Renaming.{IsRenaming, renamed_description, renamed}
 use Rattle.renaming_laws.specs.Renamed.{renamed_slot, renamed_own}
@@ -52,7 +52,7 @@ module _ (f : ℕ → ℕ) (r : IsRenaming f) where
   birth_seen k pid _ = refl
 
   pub own_renamed : (k : Kernel) → SlotsAreThere k → (pid : ℕ) (call : Call) → own (renamed f k) pid call ≡ renamed_own f (own k pid call)
-  own_renamed k slots pid call = λ i. record { root = f k.root; largest = k.largest; pid = pid; table = table_seen k slots pid i; birth = birth_seen k pid call i }
+  own_renamed k slots pid call = λ i. record { root = f k.root; bounds = k.bounds; pid = pid; table = table_seen k slots pid i; birth = birth_seen k pid call i }
 
   -- a renamed table
   taken_still : (fd : ℕ) (table : List (ℕ × Slot)) → list_any (λ e. e.0 == fd) (map (with_renamed f) table) ≡ list_any (λ e. e.0 == fd) table
@@ -64,7 +64,7 @@ module _ (f : ℕ → ℕ) (r : IsRenaming f) where
   free_from_still table fd (ℕ.suc more) = ap₂ (λ (b : Bool) (rest : List ℕ). if b then rest else fd ∷ rest) (taken_still fd table) (free_from_still table (ℕ.suc fd) more)
 
   pub free_still : (own : Own) → free (renamed_own f own) ≡ free own
-  free_still own = free_from_still own.table 0 descriptor_limit
+  free_still own = free_from_still own.table 0 (open_limit own)
 
   found_renamed : (fd : ℕ) (table : List (ℕ × Slot)) → lookup (λ g. g == fd) (map (with_renamed f) table) ≡ mapped (renamed_slot f) (lookup (λ g. g == fd) table)
   found_renamed fd [] = refl

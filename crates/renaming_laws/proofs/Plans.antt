@@ -1,17 +1,18 @@
 -- The plan of each call, in a renamed state.
-use Rattle.std.proofs.Common.{◌≡◌, ℕ, ◌+◌, ℤ, pos, negsuc, ◌+ℤ◌, Bool, true, false, not, ◌&&◌, ◌||◌, nat_lt, nat_le, ◌==◌, if◌then◌else◌, List, [], ◌∷◌, ◌++◌, map, length, take, min, Option, Some, None, refl, sym, ap, ap₂, subst, ◌∙◌}
+use Rattle.std.proofs.Common.{◌≡◌, ℕ, suc, ◌+◌, ◌-◌, ◌/◌, ℤ, pos, negsuc, ◌+ℤ◌, Bool, true, false, not, ◌&&◌, ◌||◌, nat_lt, nat_le, ◌==◌, if◌then◌else◌, List, [], ◌∷◌, ◌++◌, map, length, take, min, Option, Some, None, refl, sym, ap, ap₂, subst, ◌∙◌}
 use Rattle.std.proofs.lemmas.List.{map-append}
 use Rattle.std.specs.List.{list_any}
 use Rattle.ids.specs.Fixed.{special_object}
 use Rattle.ids.specs.Rights.{permitted, owned}
 use Rattle.ids.specs.Flags.{is_reading, is_writing, is_creating, is_exclusive, is_truncating}
 use Rattle.model.specs.State.{Kind, A_file, A_directory, A_pipe, A_link, A_fifo, A_socket, Link_to, Rights, Kernel, mapped}
-use Rattle.model.specs.Plan.{Errno, EAGAIN, EBADF, EBUSY, EEXIST, EFBIG, EINVAL, EISDIR, ELOOP, EMFILE, ENAMETOOLONG, ENXIO, ENOENT, ENOTDIR, ENOTEMPTY, EPERM, EPIPE, ESPIPE, List_names, Measure, Read_file, Count_links, Count_ends, Find_offset, Read_pipe, Fit, Read_target, Find_rights, Plan, Give, ◌>>=◌, ◌>>◌, ask, refuse_if, or_refuse}
+use Rattle.model.specs.Plan.{Errno, EAGAIN, EBADF, EBUSY, EEXIST, EFBIG, EINVAL, EISDIR, ELOOP, EMFILE, ENAMETOOLONG, ENXIO, ENOENT, ENOTDIR, ENOTEMPTY, EPERM, EPIPE, ESPIPE, List_names, Measure, Read_file, Count_links, Count_ends, Find_offset, Read_pipe, Fit, Read_target, Find_rights, Pass_blocks, block_length, Plan, Give, ◌>>=◌, ◌>>◌, ask, refuse_if, or_refuse}
+use Rattle.model.specs.Holes.{behind_blocks}
 use Rattle.model.specs.Paths.{is_empty, is_below}
 use Rattle.model.specs.Walks.{parsed, walk, Last, last_of, Place, is_directory, is_link}
-use Rattle.model.specs.Changes.{Made, There, Edit, Make_directory, Make_file, Make_fixed, Name_file, Unname_file, Unname_directory, Move, Put_bytes, Take, Append, Over_nothing, Over_file, Over_directory, Set_offset, Set_rights, Open_inode, Make_pipe, Share_slot, Clear_slot, New_process, End_process}
-use Rattle.model.specs.Calls.{OpenFlags, Whence, From_start, From_offset, From_end, Call, Open, Close, Read, Pread, Write, Pwrite, Lseek, Ftruncate, Truncate, Stat, Fstat, Link, Unlink, Rename, Mkdir, Rmdir, List_directory, Symlink, Readlink, Lstat, Mknod, Chmod, Chown, Fchmod, Fchown, Dup, Dup2, Open_pipe, Fork, Exit, Answer, Done, Descriptor, Count, New_place, Bytes, Pair, Stated, Listing, Child, Slot, Own}
-use Rattle.model.specs.Plans.{Change, changed, free, first_of_free, slot_at, slot, is_pipe, pipe_in, pipes_in, stated, status, revised, is_special, target_limit, mode, cut_to, opened, read_pipe, read_some, place_to_write, room, write_some, offset_named, read_from, write_from, sought, base, replaced_by_name, move_onto, moved, absent, duplicated, piped, forked, plan, most_moved, most_processes, whole_write}
+use Rattle.model.specs.Changes.{Made, There, Edit, Make_directory, Make_file, Make_fixed, Name_file, Unname_file, Unname_directory, Swap, Wipe, Cut, Move, Put_bytes, Take, Append, Over_nothing, Over_file, Over_directory, Set_offset, Set_rights, Open_inode, Make_pipe, Share_slot, Clear_slot, New_process, End_process}
+use Rattle.model.specs.Calls.{OpenFlags, Whence, From_start, From_offset, From_end, To_data, To_hole, Call, Open, Close, Read, Pread, Write, Pwrite, Lseek, Ftruncate, Truncate, Stat, Fstat, Link, Unlink, Rename, Exchange, Fallocate, Space, Grow, Keep, Punch, Mkdir, Rmdir, List_directory, Symlink, Readlink, Lstat, Mknod, Chmod, Chown, Fchmod, Fchown, Dup, Dup2, Open_pipe, Fork, Exit, Answer, Done, Descriptor, Count, New_place, Bytes, Pair, Stated, Listing, Child, Slot, Own}
+use Rattle.model.specs.Plans.{Change, changed, free, first_of_free, slot_at, slot, is_pipe, pipe_in, pipes_in, stated, status, revised, is_special, target_limit, mode, cut_to, opened, read_pipe, read_some, place_to_write, room, write_some, offset_named, read_from, write_from, sought, found_from, aimed, length_named, spaced, swapped, replaced_by_name, move_onto, moved, absent, duplicated, piped, forked, plan, most_moved, most_processes, whole_write, open_limit}
 use Rattle.renaming_laws.specs.Renaming.{IsRenaming}
 use Rattle.renaming_laws.specs.Renamed.{renamed_place, renamed_slot, renamed_own, renamed_replaced, renamed_edit, renamed_answer, renamed_change}
 use Rattle.renaming_laws.proofs.States.{same_test}
@@ -136,10 +137,44 @@ module _ (f : ℕ → ℕ) (r : IsRenaming f) (k : Kernel) where
   sought_goes largest it (pos place) = unless (nat_lt largest place) EINVAL _ _ (goes_changed (New_place place) (Set_offset it.description place ∷ []) _ refl)
   sought_goes largest it (negsuc place) = goes_refuse f r k (renamed_change f) EINVAL
 
-  base_goes : (it : Slot) (whence : Whence) → Goes f k (λ place. place) (base it whence) (base (renamed_slot f it) whence)
-  base_goes it From_start = goes_give f r k (λ place. place) 0 0 refl
-  base_goes it From_offset = goes_ask f r k (Find_offset it.description)
-  base_goes it From_end = goes_ask f r k (Measure it.inode)
+  found_goes : (holes : Bool) (n from : ℕ) → Goes f k (λ place. place) (found_from holes n from) (found_from holes (f n) from)
+  found_goes holes n from = asked (λ place. place) (ask (Measure n)) (ask (Measure (f n))) _ _ (goes_ask f r k (Measure n)) (λ size.
+      goes_unless f r k (λ place. place) (nat_le size from) (nat_le size from) refl ENXIO _ _
+      (asked (λ place. place) (ask (Pass_blocks (not holes) n (from / block_length) (suc ((size - 1) / block_length - from / block_length)))) (ask (Pass_blocks (not holes) (f n) (from / block_length) (suc ((size - 1) / block_length - from / block_length)))) _ _
+      (goes_ask f r k (Pass_blocks (not holes) n (from / block_length) (suc ((size - 1) / block_length - from / block_length)))) (λ passed.
+      goes_unless f r k (λ place. place) (not holes && nat_le size (behind_blocks from passed)) (not holes && nat_le size (behind_blocks from passed)) refl ENXIO _ _
+      (goes_give f r k (λ place. place) (min size (behind_blocks from passed)) (min size (behind_blocks from passed)) refl))))
+
+  found_named : (holes : Bool) (n : ℕ) (move : ℤ) → Goes f k (λ sum. sum) (or_refuse ENXIO (offset_named move) >>= (λ from. found_from holes n from >>= (λ place. Give (pos place)))) (or_refuse ENXIO (offset_named move) >>= (λ from. found_from holes (f n) from >>= (λ place. Give (pos place))))
+  found_named holes n (pos from) = asked (λ sum. sum) (found_from holes n from) (found_from holes (f n) from) _ _ (found_goes holes n from) (λ place. goes_give f r k (λ sum. sum) (pos place) (pos place) refl)
+  found_named holes n (negsuc from) = goes_refuse f r k (λ sum. sum) ENXIO
+
+  aimed_goes : (it : Slot) (move : ℤ) (whence : Whence) → Goes f k (λ sum. sum) (aimed it move whence) (aimed (renamed_slot f it) move whence)
+  aimed_goes it move From_start = goes_give f r k (λ sum. sum) move move refl
+  aimed_goes it move From_offset = asked (λ sum. sum) (ask (Find_offset it.description)) (ask (Find_offset (f it.description))) _ _ (goes_ask f r k (Find_offset it.description)) (λ offset. goes_give f r k (λ sum. sum) (pos offset +ℤ move) (pos offset +ℤ move) refl)
+  aimed_goes it move From_end = asked (λ sum. sum) (ask (Measure it.inode)) (ask (Measure (f it.inode))) _ _ (goes_ask f r k (Measure it.inode)) (λ size. goes_give f r k (λ sum. sum) (pos size +ℤ move) (pos size +ℤ move) refl)
+  aimed_goes it move To_data = found_named false it.inode move
+  aimed_goes it move To_hole = found_named true it.inode move
+
+  -- a length that a call names tells no number
+  long_goes : (len : ℤ) (p q : ℕ → Plan Change) → ((count : ℕ) → Goes f k (renamed_change f) (p count) (q count)) → Goes f k (renamed_change f) (or_refuse EINVAL (length_named len) >>= p) (or_refuse EINVAL (length_named len) >>= q)
+  long_goes (pos ℕ.zero) p q rest = goes_refuse f r k (renamed_change f) EINVAL
+  long_goes (pos (suc more)) p q rest = rest (suc more)
+  long_goes (negsuc more) p q rest = goes_refuse f r k (renamed_change f) EINVAL
+
+  -- an edit that there may be
+  edit_if : (b : Bool) (e : Edit) → (if b then renamed_edit f e ∷ [] else []) ≡ map (renamed_edit f) (if b then e ∷ [] else [])
+  edit_if true e = refl
+  edit_if false e = refl
+
+  spaced_goes : (n at count : ℕ) (space : Space) → Goes f k (renamed_change f) (spaced n at count space) (spaced (f n) at count space)
+  spaced_goes n at count Grow = asked (renamed_change f) (ask (Measure n)) (ask (Measure (f n))) _ _ (goes_ask f r k (Measure n)) (λ size. goes_changed Done _ _ (edit_if (nat_lt size (at + count)) (Cut n size (at + count))))
+  spaced_goes n at count Keep = goes_changed Done [] [] refl
+  spaced_goes n at count Punch = asked (renamed_change f) (ask (Measure n)) (ask (Measure (f n))) _ _ (goes_ask f r k (Measure n)) (λ size. goes_changed Done _ _ (edit_if (nat_lt at size) (Wipe n at (min count (size - at)))))
+
+  swapped_goes : (at : Last) (what : Place) (onto : Last) (other : Place) → Goes f k (renamed_change f) (swapped at what onto other) (swapped (renamed_last f at) (renamed_place f what) (renamed_last f onto) (renamed_place f other))
+  swapped_goes at what onto other = goes_either f r k (renamed_change f) (what.0 == other.0) (f what.0 == f other.0) (same_test f r what.0 other.0) _ _ _ _ (goes_changed Done [] [] refl)
+      (goes_changed Done (Swap at.parent at.name what.0 onto.parent onto.name other.0 ∷ []) _ refl)
 
   replaced_goes : (n : ℕ) (b : Bool) → Goes f k (renamed_replaced f) (replaced_by_name n b) (replaced_by_name (f n) b)
   replaced_goes n true = asked (renamed_replaced f) (ask (List_names n)) (ask (List_names (f n))) _ _ (goes_ask f r k (List_names n)) (λ names.
@@ -191,8 +226,8 @@ module _ (f : ℕ → ℕ) (r : IsRenaming f) (k : Kernel) where
       → Goes f k (renamed_change f) (last_of root e names >>= p) (last_of (f root) e names >>= q)
   at_last root e names p q rest = goes_on f r k (renamed_last f) (renamed_change f) (last_of root e names) (last_of (f root) e names) p q (last_of_goes f r k root e names) rest
 
-  by_path : (path : List ℕ) (p q : List (List ℕ) → Plan Change) → ((names : List (List ℕ)) → Goes f k (renamed_change f) (p names) (q names)) → Goes f k (renamed_change f) (parsed path >>= p) (parsed path >>= q)
-  by_path path p q rest = asked (renamed_change f) (parsed path) (parsed path) p q (goes_parsed f r k path) rest
+  by_path : (most : ℕ) (path : List ℕ) (p q : List (List ℕ) → Plan Change) → ((names : List (List ℕ)) → Goes f k (renamed_change f) (p names) (q names)) → Goes f k (renamed_change f) (parsed most path >>= p) (parsed most path >>= q)
+  by_path most path p q rest = asked (renamed_change f) (parsed most path) (parsed most path) p q (goes_parsed f r k most path) rest
 
   where_found : (e : Errno) (o : Option Place) (p q : Place → Plan Change) → ((place : Place) → Goes f k (renamed_change f) (p place) (q (renamed_place f place)))
       → Goes f k (renamed_change f) (or_refuse e o >>= p) (or_refuse e (mapped (renamed_place f) o) >>= q)
@@ -208,7 +243,7 @@ module _ (f : ℕ → ℕ) (r : IsRenaming f) (k : Kernel) where
       unless (not (is_reading flags || is_writing flags)) EINVAL _ _
       (unless (is_exclusive flags && not (is_creating flags)) EINVAL _ _
       (unless (is_truncating flags && not (is_writing flags)) EINVAL _ _
-      (by_path path _ _ (λ names.
+      (by_path own.bounds.path_bytes path _ _ (λ names.
       asked (renamed_change f) (first_of_free (free own)) (first_of_free (free (renamed_own f own))) _ _ (first_goes own) (λ fd.
       at_last own.root (if is_creating flags && is_exclusive flags then EEXIST else EISDIR) names _ _ (λ at. opened_goes own flags fd at at.found))))))
   plan_goes own (Close fd) = with_slot own fd _ _ (λ it. goes_changed Done (Clear_slot own.pid fd (pipe_in (Some it)) ∷ []) _ (ap (λ pipes. Clear_slot own.pid fd pipes ∷ []) (pipe_renamed f r (Some it))))
@@ -218,48 +253,53 @@ module _ (f : ℕ → ℕ) (r : IsRenaming f) (k : Kernel) where
       unless (not it.reading) EBADF _ _ (unless (is_pipe it.kind) ESPIPE _ _ (named_goes offset _ _ (λ at.
       goes_either f r k (renamed_change f) (count == 0) (count == 0) refl _ _ _ _ (goes_changed (Bytes []) [] [] refl) (read_from_goes it.inode at count)))))
   plan_goes own (Write fd bytes) = with_slot own fd _ _ (λ it.
-      unless (not it.writing) EBADF _ _ (goes_either f r k (renamed_change f) (is_empty bytes) (is_empty bytes) refl _ _ _ _ (goes_changed (Count 0) [] [] refl) (write_goes own.largest it bytes)))
+      unless (not it.writing) EBADF _ _ (goes_either f r k (renamed_change f) (is_empty bytes) (is_empty bytes) refl _ _ _ _ (goes_changed (Count 0) [] [] refl) (write_goes own.bounds.file_bytes it bytes)))
   plan_goes own (Pwrite fd bytes offset) = with_slot own fd _ _ (λ it.
       unless (not it.writing) EBADF _ _ (unless (is_pipe it.kind) ESPIPE _ _ (named_goes offset _ _ (λ at.
-      goes_either f r k (renamed_change f) (is_empty bytes) (is_empty bytes) refl _ _ _ _ (goes_changed (Count 0) [] [] refl) (write_from_goes own.largest it.inode at bytes)))))
+      goes_either f r k (renamed_change f) (is_empty bytes) (is_empty bytes) refl _ _ _ _ (goes_changed (Count 0) [] [] refl) (write_from_goes own.bounds.file_bytes it.inode at bytes)))))
   plan_goes own (Lseek fd move whence) = with_slot own fd _ _ (λ it.
-      unless (is_pipe it.kind) ESPIPE _ _ (asked (renamed_change f) (base it whence) (base (renamed_slot f it) whence) _ _ (base_goes it whence) (λ place. sought_goes own.largest it (pos place +ℤ move))))
+      unless (is_pipe it.kind) ESPIPE _ _ (asked (renamed_change f) (aimed it move whence) (aimed (renamed_slot f it) move whence) _ _ (aimed_goes it move whence) (λ sum. sought_goes own.bounds.file_bytes it sum)))
+  plan_goes own (Fallocate fd offset len space) = with_slot own fd _ _ (λ it. named_goes offset _ _ (λ at. long_goes len _ _ (λ count.
+      unless (not it.writing) EBADF _ _ (unless (is_pipe it.kind) ESPIPE _ _ (unless (nat_lt own.bounds.file_bytes (at + count)) EFBIG _ _ (spaced_goes it.inode at count space))))))
   plan_goes own (Ftruncate fd len) = with_slot own fd _ _ (λ it.
-      unless (not it.writing) EBADF _ _ (unless (is_pipe it.kind) EINVAL _ _ (unless (nat_lt own.largest len) EFBIG _ _
+      unless (not it.writing) EBADF _ _ (unless (is_pipe it.kind) EINVAL _ _ (unless (nat_lt own.bounds.file_bytes len) EFBIG _ _
       (goes_on f r k (map (renamed_edit f)) (renamed_change f) (cut_to it.inode len) (cut_to (f it.inode) len) (λ cut. changed Done cut) (λ cut. changed Done cut) (cut_goes it.inode len) (λ cut. goes_changed Done cut (map (renamed_edit f) cut) refl)))))
-  plan_goes own (Truncate path len) = by_path path _ _ (λ names. walked own.root names _ _ (λ place.
-      of_kind (λ b. b) place EISDIR _ _ (unless_link place _ _ (unless_special place EINVAL _ _ (unless (nat_lt own.largest len) EFBIG _ _
+  plan_goes own (Truncate path len) = by_path own.bounds.path_bytes path _ _ (λ names. walked own.root names _ _ (λ place.
+      of_kind (λ b. b) place EISDIR _ _ (unless_link place _ _ (unless_special place EINVAL _ _ (unless (nat_lt own.bounds.file_bytes len) EFBIG _ _
       (goes_on f r k (map (renamed_edit f)) (renamed_change f) (cut_to place.0 len) (cut_to (f place.0) len) (λ cut. changed Done cut) (λ cut. changed Done cut) (cut_goes place.0 len) (λ cut. goes_changed Done cut (map (renamed_edit f) cut) refl)))))))
-  plan_goes own (Stat path) = by_path path _ _ (λ names. walked own.root names _ _ (λ place. unless_link place _ _ (status_goes place.0 place.1)))
+  plan_goes own (Stat path) = by_path own.bounds.path_bytes path _ _ (λ names. walked own.root names _ _ (λ place. unless_link place _ _ (status_goes place.0 place.1)))
   plan_goes own (Fstat fd) = with_slot own fd _ _ (λ it. status_goes it.inode it.kind)
-  plan_goes own (Link old path) = by_path old _ _ (λ from. by_path path _ _ (λ to. walked own.root from _ _ (λ what.
+  plan_goes own (Link old path) = by_path own.bounds.path_bytes old _ _ (λ from. by_path own.bounds.path_bytes path _ _ (λ to. walked own.root from _ _ (λ what.
       of_kind (λ b. b) what EPERM _ _ (at_last own.root EEXIST to _ _ (λ at. if_absent at.found _ _ (goes_changed Done (Name_file at.parent at.name what.0 ∷ []) _ refl))))))
-  plan_goes own (Unlink path) = by_path path _ _ (λ names. at_last own.root EPERM names _ _ (λ at. where_found ENOENT at.found _ _ (λ what.
+  plan_goes own (Unlink path) = by_path own.bounds.path_bytes path _ _ (λ names. at_last own.root EPERM names _ _ (λ at. where_found ENOENT at.found _ _ (λ what.
       of_kind (λ b. b) what EPERM _ _ (goes_changed Done (Unname_file at.parent at.name what.0 ∷ []) _ refl))))
-  plan_goes own (Rename old path) = by_path old _ _ (λ from. by_path path _ _ (λ to.
+  plan_goes own (Rename old path) = by_path own.bounds.path_bytes old _ _ (λ from. by_path own.bounds.path_bytes path _ _ (λ to.
       unless (is_empty from || is_empty to) EBUSY _ _ (at_last own.root EBUSY from _ _ (λ at. where_found ENOENT at.found _ _ (λ what.
       of_kind (λ b. b && is_below from to) what EINVAL _ _ (at_last own.root EBUSY to _ _ (λ onto. moved_goes at what onto onto.found)))))))
-  plan_goes own (Mkdir path) = by_path path _ _ (λ names. at_last own.root EEXIST names _ _ (λ at. if_absent at.found _ _ (goes_changed Done (Make_directory at.parent at.name 0 ∷ []) _ refl)))
-  plan_goes own (Rmdir path) = by_path path _ _ (λ names. at_last own.root EBUSY names _ _ (λ at. where_found ENOENT at.found _ _ (λ what.
+  plan_goes own (Exchange old path) = by_path own.bounds.path_bytes old _ _ (λ from. by_path own.bounds.path_bytes path _ _ (λ to.
+      unless (is_empty from || is_empty to) EBUSY _ _ (at_last own.root EBUSY from _ _ (λ at. at_last own.root EBUSY to _ _ (λ onto. where_found ENOENT at.found _ _ (λ what. where_found ENOENT onto.found _ _ (λ other.
+      of_kind (λ b. b && is_below from to) what EINVAL _ _ (of_kind (λ b. b && is_below to from) other EINVAL _ _ (swapped_goes at what onto other)))))))))
+  plan_goes own (Mkdir path) = by_path own.bounds.path_bytes path _ _ (λ names. at_last own.root EEXIST names _ _ (λ at. if_absent at.found _ _ (goes_changed Done (Make_directory at.parent at.name 0 ∷ []) _ refl)))
+  plan_goes own (Rmdir path) = by_path own.bounds.path_bytes path _ _ (λ names. at_last own.root EBUSY names _ _ (λ at. where_found ENOENT at.found _ _ (λ what.
       of_kind not what ENOTDIR _ _ (asked (renamed_change f) (ask (List_names what.0)) (ask (List_names (f what.0))) _ _ (goes_ask f r k (List_names what.0)) (λ entries.
       unless (not (is_empty entries)) ENOTEMPTY _ _ (goes_changed Done (Unname_directory at.parent at.name what.0 ∷ []) _ refl))))))
-  plan_goes own (List_directory path) = by_path path _ _ (λ names. walked own.root names _ _ (λ place.
+  plan_goes own (List_directory path) = by_path own.bounds.path_bytes path _ _ (λ names. walked own.root names _ _ (λ place.
       unless_link place _ _ (of_kind not place ENOTDIR _ _ (asked (renamed_change f) (ask (List_names place.0)) (ask (List_names (f place.0))) _ _ (goes_ask f r k (List_names place.0)) (λ entries. goes_changed (Listing entries) [] [] refl)))))
   plan_goes own (Symlink target path) =
       unless (is_empty target) ENOENT _ _ (unless (nat_lt target_limit (length target)) ENAMETOOLONG _ _ (unless (list_any (λ b. b == 0) target) EINVAL _ _
-      (by_path path _ _ (λ names. at_last own.root EEXIST names _ _ (λ at. if_absent at.found _ _ (goes_changed Done (Make_fixed at.parent at.name (Link_to target) 0 ∷ []) _ refl))))))
-  plan_goes own (Readlink path) = by_path path _ _ (λ names. walked own.root names _ _ (λ place.
+      (by_path own.bounds.path_bytes path _ _ (λ names. at_last own.root EEXIST names _ _ (λ at. if_absent at.found _ _ (goes_changed Done (Make_fixed at.parent at.name (Link_to target) 0 ∷ []) _ refl))))))
+  plan_goes own (Readlink path) = by_path own.bounds.path_bytes path _ _ (λ names. walked own.root names _ _ (λ place.
       goes_unless f r k (renamed_change f) (not (is_link place)) (not (is_link (renamed_place f place))) (ap not (link_still f place)) EINVAL _ _
       (asked (renamed_change f) (ask (Read_target place.0)) (ask (Read_target (f place.0))) _ _ (goes_ask f r k (Read_target place.0)) (λ target. goes_changed (Bytes target) [] [] refl))))
-  plan_goes own (Lstat path) = by_path path _ _ (λ names. walked own.root names _ _ (λ place. status_goes place.0 place.1))
-  plan_goes own (Mknod path special) = by_path path _ _ (λ names. at_last own.root EEXIST names _ _ (λ at. if_absent at.found _ _ (goes_changed Done (Make_fixed at.parent at.name (special_object special) 0 ∷ []) _ refl)))
-  plan_goes own (Chmod path permissions) = by_path path _ _ (λ names. walked own.root names _ _ (λ place. unless_link place _ _ (revised_goes place.0 (permitted permissions))))
-  plan_goes own (Chown path owner) = by_path path _ _ (λ names. walked own.root names _ _ (λ place. revised_goes place.0 (owned place.1 owner)))
+  plan_goes own (Lstat path) = by_path own.bounds.path_bytes path _ _ (λ names. walked own.root names _ _ (λ place. status_goes place.0 place.1))
+  plan_goes own (Mknod path special) = by_path own.bounds.path_bytes path _ _ (λ names. at_last own.root EEXIST names _ _ (λ at. if_absent at.found _ _ (goes_changed Done (Make_fixed at.parent at.name (special_object special) 0 ∷ []) _ refl)))
+  plan_goes own (Chmod path permissions) = by_path own.bounds.path_bytes path _ _ (λ names. walked own.root names _ _ (λ place. unless_link place _ _ (revised_goes place.0 (permitted permissions))))
+  plan_goes own (Chown path owner) = by_path own.bounds.path_bytes path _ _ (λ names. walked own.root names _ _ (λ place. revised_goes place.0 (owned place.1 owner)))
   plan_goes own (Fchmod fd permissions) = with_slot own fd _ _ (λ it. revised_goes it.inode (permitted permissions))
   plan_goes own (Fchown fd owner) = with_slot own fd _ _ (λ it. revised_goes it.inode (owned it.kind owner))
   plan_goes own (Dup fd) = with_slot own fd _ _ (λ it. subst (λ fds. Goes f k (renamed_change f) (duplicated own it (free own)) (duplicated (renamed_own f own) (renamed_slot f it) fds)) (sym (free_still f r own)) (duplicated_goes own it (free own)))
   plan_goes own (Dup2 fd other) = with_slot own fd _ _ (λ it.
-      unless (nat_lt 63 other) EBADF _ _ (goes_either f r k (renamed_change f) (fd == other) (fd == other) refl _ _ _ _ (goes_changed (Descriptor fd) [] [] refl)
+      unless (nat_le (open_limit own) other) EBADF _ _ (goes_either f r k (renamed_change f) (fd == other) (fd == other) refl _ _ _ _ (goes_changed (Descriptor fd) [] [] refl)
       (goes_changed (Descriptor other) (Share_slot own.pid other it.description (pipe_in (Some it) ++ pipe_in (slot_at own other)) ∷ []) _
       (ap (λ pipes. Share_slot own.pid other (f it.description) pipes ∷ [])
       (ap₂ (λ (xs : List ℕ) (ys : List ℕ). xs ++ ys) (pipe_renamed f r (Some it)) (ap pipe_in (slot_found f r own other) ∙ pipe_renamed f r (slot_at own other)) ∙ sym (map-append f (pipe_in (Some it)) (pipe_in (slot_at own other))))))))

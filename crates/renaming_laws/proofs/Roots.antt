@@ -37,7 +37,7 @@ module _ (f : ℕ → ℕ) (r : IsRenaming f) where
     descriptions = renamed-empty nat_cmp_total nat_cmp-IsAntisymmetric f r.again (renamed_description f) i;
     processes = processes_stay 0 setup.priorities empty (renamed-empty nat_cmp_total nat_cmp-IsAntisymmetric (λ x. x) (λ x. refl) (renamed_process f)) i;
     made = (start root setup).made;
-    largest = setup.largest;
+    bounds = setup.bounds;
   }
 
 pub start_swapped : (a b : ℕ) (setup : Setup) → renamed (swap a b) (start a setup) ≡ start b setup

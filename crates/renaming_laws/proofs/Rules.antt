@@ -61,8 +61,8 @@ module _ (f : ℕ → ℕ) (r : IsRenaming f) (k : Kernel) where
   goes_or g e (Some x) = record { same = refl }
   goes_or g e None = record { same = refl }
 
-  pub goes_parsed : (path : List ℕ) → Goes f k (λ names. names) (parsed path) (parsed path)
-  goes_parsed path = by_names (path_names path)
+  pub goes_parsed : (most : ℕ) (path : List ℕ) → Goes f k (λ names. names) (parsed most path) (parsed most path)
+  goes_parsed most path = by_names (path_names most path)
     where
       by_names : (res : Result (List Name) Errno) → Goes f k (λ names. names) (told res) (told res)
       by_names (Ok names) = record { same = refl }

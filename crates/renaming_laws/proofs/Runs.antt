@@ -6,7 +6,7 @@ use Rattle.std.proofs.lemmas.List.{length-map}
 use Rattle.std.proofs.lemmas.List.Sums.{sum_by-cons}
 use Rattle.model.specs.FiniteMap.{get, nat_cmp-IsAntisymmetric}
 use Rattle.model.specs.State.{Kernel, Process, mapped, names_of}
-use Rattle.model.specs.Changes.{Edit, Make_directory, Make_file, Make_fixed, Name_file, Unname_file, Unname_directory, Move, Put_bytes, Cut, Take, Append, Set_offset, Set_rights, Open_inode, Make_pipe, Share_slot, Clear_slot, New_process, End_process, news, all_applied, tidy, process_of}
+use Rattle.model.specs.Changes.{Edit, Make_directory, Make_file, Make_fixed, Name_file, Unname_file, Unname_directory, Swap, Wipe, Move, Put_bytes, Cut, Take, Append, Set_offset, Set_rights, Open_inode, Make_pipe, Share_slot, Clear_slot, New_process, End_process, news, all_applied, tidy, process_of}
 use Rattle.model.specs.Steps.{outcome, edits, IsNowhere, AllDifferent, CanBeChosen, Step, Item, Run}
 use Rattle.call_laws.proofs.Laws.{not_none, some_same}
 use Rattle.renaming_laws.specs.Renaming.{IsRenaming, renamed_inode, renamed_description, renamed}
@@ -59,7 +59,9 @@ module _ (f : ℕ → ℕ) (r : IsRenaming f) where
   news_still (Unname_file d x n) = refl
   news_still (Unname_directory d x n) = refl
   news_still (Move d x e y n replaced) = refl
+  news_still (Swap d x n e y m) = refl
   news_still (Put_bytes n place bytes before) = refl
+  news_still (Wipe n place count) = refl
   news_still (Cut n before after) = refl
   news_still (Take p count) = refl
   news_still (Append p bytes) = refl

@@ -4,7 +4,7 @@ use Rattle.std.specs.List.{AllByRecursion}
 use Rattle.std.proofs.lemmas.Bool.{cases_eq}
 use Rattle.model.specs.FiniteMap.{FinMap, get, insert, remove}
 use Rattle.model.specs.State.{Kernel, Inode, Pipe, Description, Process}
-use Rattle.model.specs.Changes.{Edit, Mode, Make_directory, Make_file, Make_fixed, Name_file, Unname_file, Unname_directory, Move, Put_bytes, Cut, Take, Append, Set_offset, Set_rights, Open_inode, Make_pipe, Share_slot, Clear_slot, New_process, End_process, number, Made, or_new, process_of, set_inode, set_process, set_description, set_offset, with_slot, without_slot, at_start, open_at, to_read, to_write, is_held, applied, all_applied, tidy}
+use Rattle.model.specs.Changes.{Edit, Mode, Make_directory, Make_file, Make_fixed, Name_file, Unname_file, Unname_directory, Swap, Wipe, Move, Put_bytes, Cut, Take, Append, Set_offset, Set_rights, Open_inode, Make_pipe, Share_slot, Clear_slot, New_process, End_process, number, Made, or_new, process_of, set_inode, set_process, set_description, set_offset, with_slot, without_slot, at_start, open_at, to_read, to_write, is_held, applied, all_applied, tidy}
 use Rattle.model.specs.Moments.{Setup, start}
 use Rattle.model.proofs.Laws.{get_same, get_other, removed_same, removed_other}
 use Rattle.call_laws.proofs.Laws.{calls_are_lawful_lem, empty_gives, get_retained, held_by, not_none, some_same, stays_inserted}
@@ -67,7 +67,9 @@ edit_keeps chosen k (Name_file d x n) h slots = record { there = slots.there }
 edit_keeps chosen k (Unname_file d x n) h slots = record { there = slots.there }
 edit_keeps chosen k (Unname_directory d x n) h slots = record { there = slots.there }
 edit_keeps chosen k (Move d x e y n replaced) h slots = record { there = slots.there }
+edit_keeps chosen k (Swap d x n e y m) h slots = record { there = slots.there }
 edit_keeps chosen k (Put_bytes n place bytes before) h slots = record { there = slots.there }
+edit_keeps chosen k (Wipe n place count) h slots = record { there = slots.there }
 edit_keeps chosen k (Cut n before after) h slots = record { there = slots.there }
 edit_keeps chosen k (Take p count) h slots = record { there = slots.there }
 edit_keeps chosen k (Append p bytes) h slots = record { there = slots.there }

@@ -1,5 +1,5 @@
 -- The edits of a call speak of new numbers that are chosen, and share descriptions that are there.
-use Rattle.std.proofs.Common.{◌≢◌, ℕ, ◌+◌, Bool, true, false, cond, not, ◌&&◌, ◌||◌, nat_lt, nat_le, ◌==◌, if◌then◌else◌, ℤ, pos, negsuc, ◌+ℤ◌, List, [], ◌∷◌, ◌++◌, map, length, min, Option, Some, None, Result, Ok, Err, IfOk, sum_by, arith}
+use Rattle.std.proofs.Common.{◌≢◌, ℕ, ◌+◌, ◌-◌, Bool, true, false, cond, not, ◌&&◌, ◌||◌, nat_lt, nat_le, ◌==◌, if◌then◌else◌, ℤ, pos, negsuc, List, [], ◌∷◌, ◌++◌, map, length, min, Option, Some, None, Result, Ok, Err, IfOk, sum_by, arith}
 use Rattle.std.specs.Prelude.{⊤}
 use Rattle.std.specs.List.{AllByRecursion, list_any}
 use Rattle.std.specs.Map.{lookup}
@@ -7,12 +7,12 @@ use Rattle.std.specs.Cmp.{nat_cmp_total}
 use Rattle.ids.specs.Flags.{is_reading, is_writing, is_creating, is_exclusive, is_truncating}
 use Rattle.model.specs.FiniteMap.{get, entries}
 use Rattle.model.specs.State.{A_file, A_directory, A_pipe, A_link, A_fifo, A_socket, Kernel, Description}
-use Rattle.model.specs.Plan.{Errno, EAGAIN, EBADF, EBUSY, EEXIST, EFBIG, EINVAL, EISDIR, ELOOP, ENXIO, ENAMETOOLONG, ENOENT, ENOTDIR, ENOTEMPTY, EPERM, EPIPE, ESPIPE, List_names, Read_pipe, Count_ends, Find_offset, Read_file, Fit, Read_target, Plan, Give, given, ◌>>=◌, ◌>>◌, refuse_if, or_refuse, answer}
+use Rattle.model.specs.Plan.{Errno, EAGAIN, EBADF, EBUSY, EEXIST, EFBIG, EINVAL, EISDIR, ELOOP, ENXIO, ENAMETOOLONG, ENOENT, ENOTDIR, ENOTEMPTY, EPERM, EPIPE, ESPIPE, List_names, Measure, Read_pipe, Count_ends, Find_offset, Read_file, Fit, Read_target, Plan, Give, given, ◌>>=◌, ◌>>◌, refuse_if, or_refuse, answer}
 use Rattle.model.specs.Paths.{is_empty, is_below}
 use Rattle.model.specs.Walks.{parsed, walk, Last, last_of, Place, is_directory, is_link}
-use Rattle.model.specs.Changes.{There, Edit, Open_inode, Set_offset, Share_slot, news, process_of}
-use Rattle.model.specs.Calls.{OpenFlags, Call, Open, Close, Read, Pread, Write, Pwrite, Lseek, Ftruncate, Truncate, Stat, Fstat, Link, Unlink, Rename, Mkdir, Rmdir, List_directory, Symlink, Readlink, Lstat, Mknod, Chmod, Chown, Fchmod, Fchown, Dup, Dup2, Open_pipe, Fork, Exit, Answer, Done, Descriptor, Count, Bytes, Listing, Slot, Own, slot_of, own}
-use Rattle.model.specs.Plans.{Change, changed, free, first_of_free, slot, is_pipe, status, is_special, target_limit, mode, cut_to, opened, read_pipe, read_some, place_to_write, write_some, offset_named, sought, base, moved, replaced_by_name, absent, duplicated, piped, forked, most_moved, whole_write, most_processes}
+use Rattle.model.specs.Changes.{There, Edit, Wipe, Cut, Open_inode, Set_offset, Share_slot, news, process_of}
+use Rattle.model.specs.Calls.{OpenFlags, Call, Open, Close, Read, Pread, Write, Pwrite, Lseek, Ftruncate, Truncate, Stat, Fstat, Link, Unlink, Rename, Exchange, Fallocate, Space, Grow, Keep, Punch, Mkdir, Rmdir, List_directory, Symlink, Readlink, Lstat, Mknod, Chmod, Chown, Fchmod, Fchown, Dup, Dup2, Open_pipe, Fork, Exit, Answer, Done, Descriptor, Count, Bytes, Listing, Slot, Own, slot_of, own}
+use Rattle.model.specs.Plans.{Change, changed, free, first_of_free, slot, is_pipe, status, is_special, target_limit, mode, cut_to, opened, read_pipe, read_some, place_to_write, write_some, offset_named, sought, length_named, aimed, spaced, moved, replaced_by_name, absent, duplicated, piped, forked, most_moved, whole_write, most_processes, open_limit}
 use Rattle.model.specs.Steps.{outcome, edits_of}
 use Rattle.model.proofs.Laws.{all_entries}
 use Rattle.call_laws.proofs.Laws.{after_bind, allowed, either_given, weaken, whatever}
@@ -115,6 +115,17 @@ module _ (k : Kernel) where
       (unless (not (is_directory what) && is_directory old) EISDIR _ (unless (is_directory what && not (is_directory old)) ENOTDIR _
       (then_whatever (replaced_by_name old.0 (is_directory old)) _ (λ replaced. record { numbers = (tt, tt); shares = (tt, tt) }))))
 
+  -- an edit that there may be
+  edit_sound : (b : Bool) (e : Edit) → ((count : ℕ) → HasNumbers count e) → SharesThere k e → IsSound k (record { reply = Done; edits = if b then e ∷ [] else [] })
+  edit_sound true e h g = record { numbers = (h _, tt); shares = (g, tt) }
+  edit_sound false e h g = unchanged_sound Done
+
+  -- a range of a file
+  spaced_sound : (n at count : ℕ) (space : Space) → IfOk (given k (spaced n at count space)) (IsSound k)
+  spaced_sound n at count Grow = edit_sound (nat_lt (answer k (Measure n)) (at + count)) (Cut n (answer k (Measure n)) (at + count)) (λ _. tt) tt
+  spaced_sound n at count Keep = unchanged_sound Done
+  spaced_sound n at count Punch = edit_sound (nat_lt at (answer k (Measure n))) (Wipe n at (min count (answer k (Measure n) - at))) (λ _. tt) tt
+
   duplicated_sound : (own : Own) (it : Slot) → Held k it → (fds : List ℕ) → IfOk (given k (duplicated own it fds)) (IsSound k)
   duplicated_sound own it there [] = tt
   duplicated_sound own it there (fd ∷ fds) = record { numbers = (tt, tt); shares = (there, tt) }
@@ -131,48 +142,53 @@ module _ (k : Kernel) where
   pub call_sound : SlotsAreThere k → (pid : ℕ) (call : Call) → IfOk (outcome k pid call) (IsSound k)
   call_sound slots pid (Open path flags) =
       unless (not (is_reading flags || is_writing flags)) EINVAL _ (unless (is_exclusive flags && not (is_creating flags)) EINVAL _ (unless (is_truncating flags && not (is_writing flags)) EINVAL _
-      (then_whatever (parsed path) _ (λ names. then_whatever (first_of_free (free (own k pid (Open path flags)))) _ (λ fd.
+      (then_whatever (parsed k.bounds.path_bytes path) _ (λ names. then_whatever (first_of_free (free (own k pid (Open path flags)))) _ (λ fd.
       then_whatever (last_of k.root (if is_creating flags && is_exclusive flags then EEXIST else EISDIR) names) _ (λ at. open_sound (own k pid (Open path flags)) flags fd at at.found))))))
   call_sound slots pid (Close fd) = with_slot slots pid fd (Close fd) _ (λ it there. record { numbers = (tt, tt); shares = (tt, tt) })
   call_sound slots pid (Read fd count) = with_slot slots pid fd (Read fd count) _ (λ it there. unless (not it.reading) EBADF _ (either (count == 0) _ _ (unchanged_sound (Bytes [])) (read_sound it count)))
   call_sound slots pid (Pread fd count offset) = with_slot slots pid fd (Pread fd count offset) _ (λ it there. unless (not it.reading) EBADF _ (unless (is_pipe it.kind) ESPIPE _ (then_whatever (or_refuse EINVAL (offset_named offset)) _ (λ at.
       either (count == 0) _ _ (unchanged_sound (Bytes [])) (unchanged_sound (Bytes (answer k (Read_file it.inode at (min count most_moved)))))))))
-  call_sound slots pid (Write fd bytes) = with_slot slots pid fd (Write fd bytes) _ (λ it there. unless (not it.writing) EBADF _ (either (is_empty bytes) _ _ (unchanged_sound (Count 0)) (write_sound k.largest it bytes)))
+  call_sound slots pid (Write fd bytes) = with_slot slots pid fd (Write fd bytes) _ (λ it there. unless (not it.writing) EBADF _ (either (is_empty bytes) _ _ (unchanged_sound (Count 0)) (write_sound k.bounds.file_bytes it bytes)))
   call_sound slots pid (Pwrite fd bytes offset) = with_slot slots pid fd (Pwrite fd bytes offset) _ (λ it there. unless (not it.writing) EBADF _ (unless (is_pipe it.kind) ESPIPE _ (then_whatever (or_refuse EINVAL (offset_named offset)) _ (λ at.
-      either (is_empty bytes) _ _ (unchanged_sound (Count 0)) (unless (nat_le k.largest at) EFBIG _ (record { numbers = (tt, tt); shares = (tt, tt) }))))))
-  call_sound slots pid (Lseek fd move whence) = with_slot slots pid fd (Lseek fd move whence) _ (λ it there. unless (is_pipe it.kind) ESPIPE _ (then_whatever (base it whence) _ (λ place. sought_sound k.largest it (pos place +ℤ move))))
+      either (is_empty bytes) _ _ (unchanged_sound (Count 0)) (unless (nat_le k.bounds.file_bytes at) EFBIG _ (record { numbers = (tt, tt); shares = (tt, tt) }))))))
+  call_sound slots pid (Lseek fd move whence) = with_slot slots pid fd (Lseek fd move whence) _ (λ it there. unless (is_pipe it.kind) ESPIPE _ (then_whatever (aimed it move whence) _ (λ sum. sought_sound k.bounds.file_bytes it sum)))
+  call_sound slots pid (Fallocate fd offset len space) = with_slot slots pid fd (Fallocate fd offset len space) _ (λ it there. then_whatever (or_refuse EINVAL (offset_named offset)) _ (λ at. then_whatever (or_refuse EINVAL (length_named len)) _ (λ count.
+      unless (not it.writing) EBADF _ (unless (is_pipe it.kind) ESPIPE _ (unless (nat_lt k.bounds.file_bytes (at + count)) EFBIG _ (spaced_sound it.inode at count space))))))
   call_sound slots pid (Ftruncate fd len) = with_slot slots pid fd (Ftruncate fd len) _ (λ it there.
-      unless (not it.writing) EBADF _ (unless (is_pipe it.kind) EINVAL _ (unless (nat_lt k.largest len) EFBIG _ (record { numbers = (tt, tt); shares = (tt, tt) }))))
-  call_sound slots pid (Truncate path len) = then_whatever (parsed path) _ (λ names. then_whatever (walk (k.root, Some A_directory) names) _ (λ place.
-      unless (is_directory place) EISDIR _ (unless (is_link place) ELOOP _ (unless (is_special place) EINVAL _ (unless (nat_lt k.largest len) EFBIG _ (record { numbers = (tt, tt); shares = (tt, tt) }))))))
-  call_sound slots pid (Stat path) = then_whatever (parsed path) _ (λ names. then_whatever (walk (k.root, Some A_directory) names) _ (λ place. unless (is_link place) ELOOP _ (status_sound place)))
+      unless (not it.writing) EBADF _ (unless (is_pipe it.kind) EINVAL _ (unless (nat_lt k.bounds.file_bytes len) EFBIG _ (record { numbers = (tt, tt); shares = (tt, tt) }))))
+  call_sound slots pid (Truncate path len) = then_whatever (parsed k.bounds.path_bytes path) _ (λ names. then_whatever (walk (k.root, Some A_directory) names) _ (λ place.
+      unless (is_directory place) EISDIR _ (unless (is_link place) ELOOP _ (unless (is_special place) EINVAL _ (unless (nat_lt k.bounds.file_bytes len) EFBIG _ (record { numbers = (tt, tt); shares = (tt, tt) }))))))
+  call_sound slots pid (Stat path) = then_whatever (parsed k.bounds.path_bytes path) _ (λ names. then_whatever (walk (k.root, Some A_directory) names) _ (λ place. unless (is_link place) ELOOP _ (status_sound place)))
   call_sound slots pid (Fstat fd) = with_slot slots pid fd (Fstat fd) _ (λ it there. status_sound (it.inode, it.kind))
-  call_sound slots pid (Link old path) = then_whatever (parsed old) _ (λ from. then_whatever (parsed path) _ (λ to. then_whatever (walk (k.root, Some A_directory) from) _ (λ what.
+  call_sound slots pid (Link old path) = then_whatever (parsed k.bounds.path_bytes old) _ (λ from. then_whatever (parsed k.bounds.path_bytes path) _ (λ to. then_whatever (walk (k.root, Some A_directory) from) _ (λ what.
       unless (is_directory what) EPERM _ (then_whatever (last_of k.root EEXIST to) _ (λ at. then_whatever (absent at.found) _ (λ _. record { numbers = (tt, tt); shares = (tt, tt) }))))))
-  call_sound slots pid (Unlink path) = then_whatever (parsed path) _ (λ names. then_whatever (last_of k.root EPERM names) _ (λ at. then_whatever (or_refuse ENOENT at.found) _ (λ what.
+  call_sound slots pid (Unlink path) = then_whatever (parsed k.bounds.path_bytes path) _ (λ names. then_whatever (last_of k.root EPERM names) _ (λ at. then_whatever (or_refuse ENOENT at.found) _ (λ what.
       unless (is_directory what) EPERM _ (record { numbers = (tt, tt); shares = (tt, tt) }))))
-  call_sound slots pid (Rename old path) = then_whatever (parsed old) _ (λ from. then_whatever (parsed path) _ (λ to. unless (is_empty from || is_empty to) EBUSY _
+  call_sound slots pid (Rename old path) = then_whatever (parsed k.bounds.path_bytes old) _ (λ from. then_whatever (parsed k.bounds.path_bytes path) _ (λ to. unless (is_empty from || is_empty to) EBUSY _
       (then_whatever (last_of k.root EBUSY from) _ (λ at. then_whatever (or_refuse ENOENT at.found) _ (λ what. unless (is_directory what && is_below from to) EINVAL _
       (then_whatever (last_of k.root EBUSY to) _ (λ onto. moved_sound at what onto onto.found)))))))
-  call_sound slots pid (Mkdir path) = then_whatever (parsed path) _ (λ names. then_whatever (last_of k.root EEXIST names) _ (λ at. then_whatever (absent at.found) _ (λ _. record { numbers = (omega arith, tt); shares = (tt, tt) })))
-  call_sound slots pid (Rmdir path) = then_whatever (parsed path) _ (λ names. then_whatever (last_of k.root EBUSY names) _ (λ at. then_whatever (or_refuse ENOENT at.found) _ (λ what.
+  call_sound slots pid (Exchange old path) = then_whatever (parsed k.bounds.path_bytes old) _ (λ from. then_whatever (parsed k.bounds.path_bytes path) _ (λ to. unless (is_empty from || is_empty to) EBUSY _
+      (then_whatever (last_of k.root EBUSY from) _ (λ at. then_whatever (last_of k.root EBUSY to) _ (λ onto. then_whatever (or_refuse ENOENT at.found) _ (λ what. then_whatever (or_refuse ENOENT onto.found) _ (λ other.
+      unless (is_directory what && is_below from to) EINVAL _ (unless (is_directory other && is_below to from) EINVAL _ (either (what.0 == other.0) _ _ (unchanged_sound Done) (record { numbers = (tt, tt); shares = (tt, tt) }))))))))))
+  call_sound slots pid (Mkdir path) = then_whatever (parsed k.bounds.path_bytes path) _ (λ names. then_whatever (last_of k.root EEXIST names) _ (λ at. then_whatever (absent at.found) _ (λ _. record { numbers = (omega arith, tt); shares = (tt, tt) })))
+  call_sound slots pid (Rmdir path) = then_whatever (parsed k.bounds.path_bytes path) _ (λ names. then_whatever (last_of k.root EBUSY names) _ (λ at. then_whatever (or_refuse ENOENT at.found) _ (λ what.
       unless (not (is_directory what)) ENOTDIR _ (unless (not (is_empty (answer k (List_names what.0)))) ENOTEMPTY _ (record { numbers = (tt, tt); shares = (tt, tt) })))))
-  call_sound slots pid (List_directory path) = then_whatever (parsed path) _ (λ names. then_whatever (walk (k.root, Some A_directory) names) _ (λ place.
+  call_sound slots pid (List_directory path) = then_whatever (parsed k.bounds.path_bytes path) _ (λ names. then_whatever (walk (k.root, Some A_directory) names) _ (λ place.
       unless (is_link place) ELOOP _ (unless (not (is_directory place)) ENOTDIR _ (unchanged_sound (Listing (answer k (List_names place.0)))))))
   call_sound slots pid (Symlink target path) =
       unless (is_empty target) ENOENT _ (unless (nat_lt target_limit (length target)) ENAMETOOLONG _ (unless (list_any (λ b. b == 0) target) EINVAL _
-      (then_whatever (parsed path) _ (λ names. then_whatever (last_of k.root EEXIST names) _ (λ at. then_whatever (absent at.found) _ (λ _. record { numbers = (omega arith, tt); shares = (tt, tt) }))))))
-  call_sound slots pid (Readlink path) = then_whatever (parsed path) _ (λ names. then_whatever (walk (k.root, Some A_directory) names) _ (λ place.
+      (then_whatever (parsed k.bounds.path_bytes path) _ (λ names. then_whatever (last_of k.root EEXIST names) _ (λ at. then_whatever (absent at.found) _ (λ _. record { numbers = (omega arith, tt); shares = (tt, tt) }))))))
+  call_sound slots pid (Readlink path) = then_whatever (parsed k.bounds.path_bytes path) _ (λ names. then_whatever (walk (k.root, Some A_directory) names) _ (λ place.
       unless (not (is_link place)) EINVAL _ (unchanged_sound (Bytes (answer k (Read_target place.0))))))
-  call_sound slots pid (Lstat path) = then_whatever (parsed path) _ (λ names. then_whatever (walk (k.root, Some A_directory) names) _ (λ place. status_sound place))
-  call_sound slots pid (Mknod path special) = then_whatever (parsed path) _ (λ names. then_whatever (last_of k.root EEXIST names) _ (λ at. then_whatever (absent at.found) _ (λ _. record { numbers = (omega arith, tt); shares = (tt, tt) })))
-  call_sound slots pid (Chmod path permissions) = then_whatever (parsed path) _ (λ names. then_whatever (walk (k.root, Some A_directory) names) _ (λ place. unless (is_link place) ELOOP _ (record { numbers = (tt, tt); shares = (tt, tt) })))
-  call_sound slots pid (Chown path owner) = then_whatever (parsed path) _ (λ names. then_whatever (walk (k.root, Some A_directory) names) _ (λ place. record { numbers = (tt, tt); shares = (tt, tt) }))
+  call_sound slots pid (Lstat path) = then_whatever (parsed k.bounds.path_bytes path) _ (λ names. then_whatever (walk (k.root, Some A_directory) names) _ (λ place. status_sound place))
+  call_sound slots pid (Mknod path special) = then_whatever (parsed k.bounds.path_bytes path) _ (λ names. then_whatever (last_of k.root EEXIST names) _ (λ at. then_whatever (absent at.found) _ (λ _. record { numbers = (omega arith, tt); shares = (tt, tt) })))
+  call_sound slots pid (Chmod path permissions) = then_whatever (parsed k.bounds.path_bytes path) _ (λ names. then_whatever (walk (k.root, Some A_directory) names) _ (λ place. unless (is_link place) ELOOP _ (record { numbers = (tt, tt); shares = (tt, tt) })))
+  call_sound slots pid (Chown path owner) = then_whatever (parsed k.bounds.path_bytes path) _ (λ names. then_whatever (walk (k.root, Some A_directory) names) _ (λ place. record { numbers = (tt, tt); shares = (tt, tt) }))
   call_sound slots pid (Fchmod fd permissions) = then_whatever (slot (own k pid (Fchmod fd permissions)) fd) _ (λ it. record { numbers = (tt, tt); shares = (tt, tt) })
   call_sound slots pid (Fchown fd owner) = then_whatever (slot (own k pid (Fchown fd owner)) fd) _ (λ it. record { numbers = (tt, tt); shares = (tt, tt) })
   call_sound slots pid (Dup fd) = with_slot slots pid fd (Dup fd) _ (λ it there. duplicated_sound (own k pid (Dup fd)) it there (free (own k pid (Dup fd))))
   call_sound slots pid (Dup2 fd other) = with_slot slots pid fd (Dup2 fd other) _ (λ it there.
-      unless (nat_lt 63 other) EBADF _ (either (fd == other) _ _ (unchanged_sound (Descriptor fd)) (record { numbers = (tt, tt); shares = (there, tt) })))
+      unless (nat_le (open_limit (own k pid (Dup2 fd other))) other) EBADF _ (either (fd == other) _ _ (unchanged_sound (Descriptor fd)) (record { numbers = (tt, tt); shares = (there, tt) })))
   call_sound slots pid Open_pipe = piped_sound (own k pid Open_pipe) (free (own k pid Open_pipe))
   call_sound slots pid Fork = forked_sound (own k pid Fork) (own k pid Fork).birth
   call_sound slots pid Exit = record { numbers = (tt, tt); shares = (tt, tt) }

@@ -5,7 +5,8 @@ use Rattle.std.specs.Cmp.{IsTotalOrder, nat_cmp_total}
 use Rattle.std.specs.Cmp.Lexicographic.{nat_list_cmp_total}
 use Rattle.model.specs.FiniteMap.{FinMap, get, empty, keys, values, nat_cmp-IsAntisymmetric, IsAntisymmetric}
 use Rattle.model.specs.State.{Name, name_cmp, Kind, Kernel, Inode, File, Directory, Pipe, Fixed, Description, Process, Rights, kind, mapped, names_of_inode, file_of_inode, pipe_of_inode, target_of_inode, names_of, file_of, pipe_of, target_of, kind_of, rights_or, rights_of, entry_of, offset_in, offset_of, links, ends, is_end}
-use Rattle.model.specs.Plan.{Look, List_names, Measure, Read_file, Count_links, Count_ends, Find_offset, Read_pipe, Fit, Read_target, Find_rights, capacity}
+use Rattle.model.specs.Holes.{alike_from}
+use Rattle.model.specs.Plan.{Look, List_names, Measure, Read_file, Count_links, Count_ends, Find_offset, Read_pipe, Fit, Read_target, Find_rights, Pass_blocks, capacity}
 use Rattle.model.specs.Changes.{or_new, process_of, holders, openings}
 use Rattle.model.proofs.Laws.{name_exact}
 use Rattle.call_laws.proofs.Laws.{sum-empty}
@@ -182,3 +183,4 @@ questions_are_renamed f r k (Read_pipe p count) = ap (take count) (pipe_at f r k
 questions_are_renamed f r k (Fit p count) = ap (λ (bytes : List ℕ). min count (capacity - length bytes)) (pipe_at f r k p)
 questions_are_renamed f r k (Read_target n) = target_at f r k n
 questions_are_renamed f r k (Find_rights n) = rights_at f r k n
+questions_are_renamed f r k (Pass_blocks holes n first count) = ap (λ bytes. alike_from holes bytes first count) (file_at f r k n)

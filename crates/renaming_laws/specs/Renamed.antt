@@ -3,10 +3,10 @@ use Rattle.std.specs.Prelude.{ℕ, map, Option, Result, Ok, Err}
 use Rattle.model.specs.State.{Kind, mapped}
 use Rattle.model.specs.Plan.{Errno, Question, Shown, Look, List_names, Measure, Read_file}
 use Rattle.model.specs.Plan.{Count_links, Count_ends, Find_offset, Read_pipe, Fit, Read_target}
-use Rattle.model.specs.Plan.{Find_rights}
+use Rattle.model.specs.Plan.{Find_rights, Pass_blocks}
 use Rattle.model.specs.Changes.{Which, There, Made, Replaced, Over_nothing, Over_file}
 use Rattle.model.specs.Changes.{Over_directory, Edit, Make_directory, Make_file, Make_fixed}
-use Rattle.model.specs.Changes.{Name_file, Unname_file, Unname_directory, Move, Put_bytes, Cut, Take, Append}
+use Rattle.model.specs.Changes.{Name_file, Unname_file, Unname_directory, Swap, Wipe, Move, Put_bytes, Cut, Take, Append}
 use Rattle.model.specs.Changes.{Set_offset, Set_rights, Open_inode, Make_pipe, Share_slot, Clear_slot}
 use Rattle.model.specs.Changes.{New_process, End_process}
 use Rattle.model.specs.Calls.{Answer, Stated, Slot, Own}
@@ -26,6 +26,7 @@ renamed_question f (Read_pipe p count) = Read_pipe (f p) count
 renamed_question f (Fit p count) = Fit (f p) count
 renamed_question f (Read_target n) = Read_target (f n)
 renamed_question f (Find_rights n) = Find_rights (f n)
+renamed_question f (Pass_blocks holes n first count) = Pass_blocks holes (f n) first count
 
 -- a number with its kind
 abbrev pub renamed_place : (ℕ → ℕ) → ℕ × Option Kind → ℕ × Option Kind
@@ -44,6 +45,7 @@ renamed_shown f (Read_pipe p count) bytes = bytes
 renamed_shown f (Fit p count) fitting = fitting
 renamed_shown f (Read_target n) target = target
 renamed_shown f (Find_rights n) rights = rights
+renamed_shown f (Pass_blocks holes n first count) passed = passed
 
 abbrev pub renamed_slot : (ℕ → ℕ) → Slot → Slot
 renamed_slot f s = record s { description = f s.description; inode = f s.inode }
@@ -71,7 +73,9 @@ renamed_edit f (Name_file d x n) = Name_file (f d) x (f n)
 renamed_edit f (Unname_file d x n) = Unname_file (f d) x (f n)
 renamed_edit f (Unname_directory d x n) = Unname_directory (f d) x (f n)
 renamed_edit f (Move d x e y n replaced) = Move (f d) x (f e) y (f n) (renamed_replaced f replaced)
+renamed_edit f (Swap d x n e y m) = Swap (f d) x (f n) (f e) y (f m)
 renamed_edit f (Put_bytes n place bytes before) = Put_bytes (f n) place bytes before
+renamed_edit f (Wipe n place count) = Wipe (f n) place count
 renamed_edit f (Cut n before after) = Cut (f n) before after
 renamed_edit f (Take p count) = Take (f p) count
 renamed_edit f (Append p bytes) = Append (f p) bytes

@@ -44,5 +44,5 @@ renamed f k = record {
   descriptions = renamed_map f (renamed_description f) k.descriptions;
   processes = with_values (renamed_process f) k.processes;
   made = k.made;
-  largest = k.largest;
+  bounds = k.bounds;
 }

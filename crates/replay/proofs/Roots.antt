@@ -1,5 +1,5 @@
 -- Entries that pass for two roots: nothing that they run tells either, and what they come to is alike.
-use Rattle.std.proofs.Common.{◌≡◌, ◌≢◌, ◌⊎◌, ℕ, List, [], ◌∷◌, ◌++◌, Result, Ok, Err, inl, inr, refl, sym, ap, subst, ◌∙◌, append_assoc, append-nil}
+use Rattle.std.proofs.Common.{◌≡◌, ◌≢◌, ◌⊎◌, ℕ, List, [], ◌∷◌, ◌++◌, Result, Ok, Err, IfOk, inl, inr, refl, sym, ap, subst, ◌∙◌, append_assoc, append-nil}
 use Rattle.std.specs.List.{AllByRecursion}
 use Rattle.std.proofs.lemmas.Bool.{cases_eq}
 use Rattle.model.specs.State.{Kernel}
@@ -32,10 +32,15 @@ number_told (Err e) = 0
 
 -- What runs for two roots tells neither.
 module _ (a b : ℕ) (apart : a ≢ b) where
-  neither : (its : List Item) → AllByRecursion (λ it. TellsNot a it.answer ⊎ TellsRoot a it.call it.answer) its → AllByRecursion (λ it. IsStatOfRoot it.call → TellsRoot b it.call it.answer) its → AllByRecursion (λ it. TellsNot a it.answer) its
+  neither : (its : List Item) → AllByRecursion (λ it. TellsNot a it.answer ⊎ TellsRoot a it.call it.answer) its → AllByRecursion (λ it. IsStatOfRoot it.call → IfOk it.answer (λ _. TellsRoot b it.call it.answer)) its → AllByRecursion (λ it. TellsNot a it.answer) its
   neither [] h g = tt
   neither (it ∷ its) h g = (
-    elim h.0 [ inl quiet ↦ quiet | inr tells ↦ absurd (apart (ap number_told (sym tells.tells ∙ (g.0 tells.is_stat).tells))) ],
+    elim h.0 [
+      | inl quiet ↦ quiet
+      | inr tells ↦
+          let told : TellsRoot b it.call it.answer = subst (λ r. IfOk r (λ _. TellsRoot b it.call it.answer)) tells.tells (g.0 tells.is_stat) in
+          absurd (apart (ap number_told (sym tells.tells ∙ told.tells)))
+    ],
     neither its h.1 g.1,
   )
 

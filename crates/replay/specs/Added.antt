@@ -8,15 +8,15 @@ use Rattle.replay.specs.declared.added.Added.{Added, Start, Process', Entry'}
 -- one more process with this priority
 abbrev pub with_process : Setup → ℕ → Setup
 with_process setup priority =
-    record { priorities = setup.priorities ++ priority ∷ []; largest = setup.largest }
+    record { priorities = setup.priorities ++ priority ∷ []; bounds = setup.bounds }
 
 abbrev pub setup_in : Added → Setup
-setup_in (Start largest) = record { priorities = []; largest = largest.value }
+setup_in (Start bounds) = record { priorities = []; bounds = bounds.value }
 setup_in (Process' shape before priority) = with_process (setup_in before) priority.value
 setup_in (Entry' shape before entry) = setup_in before
 
 abbrev pub entries_in : Added → List Entry
-entries_in (Start largest) = []
+entries_in (Start bounds) = []
 entries_in (Process' shape before priority) = entries_in before
 entries_in (Entry' shape before entry) = entries_in before ++ entry.value ∷ []
 

@@ -3,13 +3,13 @@ ghost use Rattle.std.specs.Prelude.{◌≡◌, ◌++◌, []};
 ghost use Rattle.replay.specs.Added.{entries_in, setup_in};
 
 use crate::beginning::Beginning;
-use ids::{Entry as Listed, Priority};
+use ids::{Bounds, Entry as Listed, Priority};
 use std::snapshot::Snapshot;
 
 /// What a kernel began with, and entries, in order. It takes one byte, however many there were.
 pub(crate) enum Added {
-    /// No process and no entry, where files have at most so many bytes.
-    Start(Snapshot<u32>),
+    /// No process and no entry, within these bounds.
+    Start(Snapshot<Bounds>),
     /// One more process, with its priority.
     Process(Snapshot<Added>, Snapshot<Priority>),
     /// One more entry.
@@ -32,7 +32,7 @@ impl Added {
         ensures setup { setup_in result ≡ beginning.now }
         ensures entries { entries_in result ≡ [] }
     {
-        let mut added = Added::Start(Snapshot::of(&beginning.largest));
+        let mut added = Added::Start(Snapshot::of(&beginning.bounds));
         for priority in beginning.priorities {
             let before = Snapshot::of(&added);
             added = Added::Process(before, Snapshot::of(priority));

@@ -287,7 +287,7 @@ impl Audit {
         ensures transactions { IfOk result (λ r. r.transactions ≡ empty) }
     {
         Ok(Audit {
-            kernel: PlainKernel::new(heap, root, beginning.priorities, beginning.largest)?,
+            kernel: PlainKernel::new(heap, root, beginning.priorities, beginning.bounds)?,
             transactions: Table::new(heap),
         })
     }

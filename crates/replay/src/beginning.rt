@@ -1,13 +1,12 @@
 // What a kernel began with.
-use ids::Priority;
+use ids::{Bounds, Priority};
 use std::marker::Model;
 
-/// What a kernel was given when it was made: the priorities of its first processes, and the most
-/// bytes of a file.
+/// What a kernel was given when it was made: the priorities of its first processes, and its bounds.
 #[derive(Drop)]
 pub(crate) struct Beginning<'a> {
     pub(crate) priorities: &'a [Priority],
-    pub(crate) largest: u32,
+    pub(crate) bounds: Bounds,
 }
 
 impl<'a> Model for Beginning<'a> {
@@ -19,8 +18,8 @@ impl<'a> Model for Beginning<'a> {
 
     ghost view = { λ b. record {
       priorities = b.priorities.now;
-      largest = b.largest;
+      bounds = b.bounds;
     } };
 
-    ghost invariant = { λ b. b.largest ≤ LARGEST_FILE };
+    ghost invariant = { λ b. b.bounds.file_bytes ≤ LARGEST_FILE };
 }

@@ -2,7 +2,8 @@
 ghost use Rattle.std.specs.Prelude.{◌≡◌, ◌≢◌, ◌≤◌, ◌++◌, ℕ, List, [], None, Some, IfOk, IfErr, OnOk};
 ghost use Rattle.std.specs.List.{AllByRecursion};
 ghost use Rattle.model.specs.Entries.{Entry as Listed};
-ghost use Rattle.ids.specs.declared.limits.TheConstants.{DEFAULT_LARGEST_FILE, LARGEST_FILE};
+ghost use Rattle.ids.specs.Bounds.{given_by_default};
+ghost use Rattle.ids.specs.declared.limits.TheConstants.{LARGEST_FILE};
 ghost use Rattle.model.specs.FiniteMap.{get};
 ghost use Rattle.model.specs.Moments.{Setup};
 ghost use Rattle.model.specs.Passing.{Passes};
@@ -19,7 +20,7 @@ use crate::checking::CheckFault;
 use crate::transaction::Transaction;
 use crate::window::Window;
 use heap::Heap;
-use ids::{DEFAULT_LARGEST_FILE, Entry, Num, Priority};
+use ids::{Bounds, Entry, Num, Priority};
 use plain_kernel::{Table, Tree};
 use std::alloc::AllocError;
 use std::marker::Model;
@@ -75,36 +76,33 @@ impl Model for Checker {
 
 impl Checker {
     /// No entry so far, of a kernel whose root has this number, whose first processes have these
-    /// priorities, and whose files have at most [`ids::DEFAULT_LARGEST_FILE`] bytes. Refused memory
-    /// gives nothing.
+    /// priorities, and which has the bounds where none are given ([`Bounds::given_by_default`]). Refused
+    /// memory gives nothing.
     pub fn new(heap: Heap, root: Num, priorities: &[Priority]) -> Result<Checker, AllocError>
         ensures { IfOk result (λ checker. checker ≡ record {
           root = root;
-          setup = record { priorities = priorities.now; largest = DEFAULT_LARGEST_FILE };
+          setup = record { priorities = priorities.now; bounds = given_by_default };
           entries = [];
         }) }
     {
-        Checker::with_largest_file(heap, root, priorities, DEFAULT_LARGEST_FILE)
+        Checker::with_bounds(heap, root, priorities, Bounds::given_by_default())
     }
 
-    /// The same of a kernel whose files have at most `largest` bytes.
-    pub fn with_largest_file(
+    /// The same of a kernel with these bounds.
+    pub fn with_bounds(
         heap: Heap,
         root: Num,
         priorities: &[Priority],
-        largest: u32,
+        bounds: Bounds,
     ) -> Result<Checker, AllocError>
-        requires { largest ≤ LARGEST_FILE }
+        requires { bounds.file_bytes ≤ LARGEST_FILE }
         ensures { IfOk result (λ checker. checker ≡ record {
           root = root;
-          setup = record { priorities = priorities.now; largest = largest };
+          setup = record { priorities = priorities.now; bounds = bounds };
           entries = [];
         }) }
     {
-        let beginning = Beginning {
-            priorities,
-            largest,
-        };
+        let beginning = Beginning { priorities, bounds };
         let audit = Audit::new(heap, root, &beginning)?;
         Ok(Checker {
             heap,

@@ -30,16 +30,16 @@ pub enum CheckFault {
 /// a transaction, of its first call up to which it cannot be run.
 pub fn check(heap: Heap, history: &History) -> Result<(), CheckFault>
     ensures ok { OnOk result (PassesForSome
-        (record { priorities = history.now.priorities; largest = history.now.largest })
+        (record { priorities = history.now.priorities; bounds = history.now.bounds })
         (kept history.now)) }
     ensures wrong { IfErr result (IsFault
-        (record { priorities = history.now.priorities; largest = history.now.largest })
+        (record { priorities = history.now.priorities; bounds = history.now.bounds })
         (kept history.now)) }
 {
     let entries = history.entries();
     let beginning = Beginning {
         priorities: history.priorities(),
-        largest: history.largest_file(),
+        bounds: history.bounds(),
     };
     match first_unchosen(heap, entries) {
         Ok(guess) => check_from(heap, guess, &beginning, entries),

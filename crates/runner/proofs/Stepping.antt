@@ -31,7 +31,7 @@ HasDone-took {old = old} {pid = pid} {op = op} h kept t =
       kept = kept;
       same_priorities = ap (λ (l : Log). l.priorities) t.added.is ∙ h.same_priorities;
       same_limit = ap (λ (l : Log). l.limit) t.added.is ∙ h.same_limit;
-      same_largest = ap (λ (l : Log). l.largest) t.added.is ∙ h.same_largest;
+      same_bounds = ap (λ (l : Log). l.bounds) t.added.is ∙ h.same_bounds;
       whole = ap (λ (l : Log). l.forgotten) t.added.is ∙ h.whole;
       done = ap (λ (l : Log). operations l.entries) t.added.is
           ∙ map-append (λ (e : Entry). (e.pid, e.op)) old.log.entries (entry ∷ [])
@@ -40,7 +40,7 @@ HasDone-took {old = old} {pid = pid} {op = op} h kept t =
 
 -- the same steps, said in another way
 HasDone-as : {priorities : List ℕ} {limits : Limits} {steps others : List (ℕ × Op)} {kernel : Shown} → HasDone priorities limits steps kernel → steps ≡ others → HasDone priorities limits others kernel
-HasDone-as h e = record { kept = h.kept; same_priorities = h.same_priorities; same_limit = h.same_limit; same_largest = h.same_largest; whole = h.whole; done = h.done ∙ e }
+HasDone-as h e = record { kept = h.kept; same_priorities = h.same_priorities; same_limit = h.same_limit; same_bounds = h.same_bounds; whole = h.whole; done = h.done ∙ e }
 
 -- where the next step is refused
 halts : (r : Result (Unit {0}) StepRefusal) (priorities : List ℕ) (limits : Limits) (steps done : List (ℕ × Op)) (kernel : Shown) (pid : ℕ) (op : Op)

@@ -15,7 +15,12 @@ use Rattle.runner.specs.declared.fault.RunFault.TheVariants.{Read, Write, Check}
 
 -- the limits that a job gives its kernel
 abbrev pub limits_for : Job → Limits
-limits_for job = record { entries = job.limit; file_bytes = job.file_limit }
+limits_for job = record {
+  entries = job.limit;
+  file_bytes = job.file_limit;
+  descriptors = job.descriptors;
+  path_bytes = job.path_limit;
+}
 
 -- The script was run in this way, and its transcript is written behind what stood there before.
 abbrev pub HasRun : Way → Limits → (given left old new : Option (List ℕ)) → Shown → Type 0

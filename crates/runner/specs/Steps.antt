@@ -14,6 +14,7 @@ use Rattle.stream.specs.declared.doing.StepRefusal.{StepRefusal}
 use Rattle.stream.specs.declared.doing.StepRefusal.TheVariants as refusal
 use Rattle.runner.specs.declared.fault.RunFault.{RunFault}
 use Rattle.runner.specs.declared.fault.RunFault.TheVariants.{Write, HistoryFull, NoMemory}
+use Rattle.ids.specs.Bounds.{bounds_of}
 
 -- the process and the operation of each entry, in order
 abbrev pub operations : List Entry → List (ℕ × Op)
@@ -21,7 +22,12 @@ operations entries = map (λ e. (e.pid, e.op)) entries
 
 -- the limits of a history's kernel
 abbrev pub limits_of : Log → Limits
-limits_of log = record { entries = log.limit; file_bytes = log.largest }
+limits_of log = record {
+  entries = log.limit;
+  file_bytes = log.bounds.file_bytes;
+  descriptors = log.bounds.descriptors;
+  path_bytes = log.bounds.path_bytes;
+}
 
 -- A kernel with these priorities and these limits has a legal history, of which nothing was
 -- forgotten, and its operations are these steps.
@@ -31,7 +37,7 @@ pub record HasDone
   pub kept : Kept kernel
   pub same_priorities : kernel.log.priorities ≡ priorities
   pub same_limit : kernel.log.limit ≡ limits.entries
-  pub same_largest : kernel.log.largest ≡ limits.file_bytes
+  pub same_bounds : kernel.log.bounds ≡ bounds_of limits
   pub whole : kernel.log.forgotten ≡ []
   pub done : operations kernel.log.entries ≡ steps
 

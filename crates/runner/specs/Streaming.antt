@@ -22,7 +22,12 @@ fault_of_stream stop.Spent = HistoryFull
 
 -- the limits that a stream's job gives its kernel
 abbrev pub limits_of_stream : StreamJob → Limits
-limits_of_stream job = record { entries = job.limit; file_bytes = job.file_limit }
+limits_of_stream job = record {
+  entries = job.limit;
+  file_bytes = job.file_limit;
+  descriptors = job.descriptors;
+  path_bytes = job.path_limit;
+}
 
 -- 0 where no line was a fault, else 1
 abbrev pub status_of_good : Bool → ℕ

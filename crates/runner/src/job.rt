@@ -44,6 +44,8 @@ fn run_script<K: Machine + Send, R: Threads + Wait + Sync, I: Source, O: Sink>(
     let limits = Limits {
         entries: job.limit as usize,
         file_bytes: job.file_limit,
+        descriptors: job.descriptors,
+        path_bytes: job.path_limit,
     };
     match &job.way {
         Way::Schedule(list) => run_schedule(heap, source, list.as_str(), limits, out),

@@ -47,6 +47,8 @@ pub fn run_stream_job<K: Machine, I: Source, O: Sink, E: Sink>(
     let limits = Limits {
         entries: job.limit as usize,
         file_bytes: job.file_limit,
+        descriptors: job.descriptors,
+        path_bytes: job.path_limit,
     };
     match run_stream::<K, _, _>(heap, limits, job.check, source, out) {
         Ok(good) => status_of_good(good),

@@ -8,7 +8,9 @@ use Rattle.script.specs.Characters.{comma}
 use Rattle.ids.specs.declared.flags.OpenFlags.{OpenFlags}
 use Rattle.ids.specs.declared.flags.BeginFlags.{BeginFlags}
 use Rattle.ids.specs.declared.call.Whence.{Whence}
-use Rattle.ids.specs.declared.call.Whence.TheVariants.{Set, Cur, End}
+use Rattle.ids.specs.declared.call.Whence.TheVariants.{Set, Cur, End, Data, Hole}
+use Rattle.ids.specs.declared.call.Space.{Space}
+use Rattle.ids.specs.declared.call.Space.TheVariants.{Grow, Keep, Punch}
 use Rattle.ids.specs.declared.fixed.Special.{Special}
 use Rattle.ids.specs.declared.fixed.Special.TheVariants.{Fifo, Socket}
 
@@ -55,7 +57,16 @@ abbrev pub whence_in : List ℕ → Option Whence
 whence_in word =
     if bytes_eq word (codes "SET") then Some Set
     else if bytes_eq word (codes "CUR") then Some Cur
-    else if bytes_eq word (codes "END") then Some End else None
+    else if bytes_eq word (codes "END") then Some End
+    else if bytes_eq word (codes "DATA") then Some Data
+    else if bytes_eq word (codes "HOLE") then Some Hole else None
+
+-- what becomes of a range of a file
+abbrev pub space_in : List ℕ → Option Space
+space_in word =
+    if bytes_eq word (codes "GROW") then Some Grow
+    else if bytes_eq word (codes "KEEP") then Some Keep
+    else if bytes_eq word (codes "PUNCH") then Some Punch else None
 
 -- what a mknod makes
 abbrev pub special_in : List ℕ → Option Special

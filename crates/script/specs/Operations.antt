@@ -7,7 +7,7 @@ use Rattle.script.specs.Pieces.{one_of, two_of, three_of, four_of}
 use Rattle.script.specs.Numbers.{decimal_in, offset_in, byte_in}
 use Rattle.script.specs.Rights.{id_in, permissions_in}
 use Rattle.script.specs.Texts.{text_in}
-use Rattle.script.specs.Flags.{flags_in, begin_flags, begin_flags_in, special_in, whence_in}
+use Rattle.script.specs.Flags.{flags_in, begin_flags, begin_flags_in, space_in, special_in, whence_in}
 use Rattle.script.specs.declared.limits.TheConstants.{TRANSFER_LIMIT}
 use Rattle.ids.specs.declared.flags.BeginFlags.{BeginFlags}
 use Rattle.ids.specs.declared.call.Op.{Op}
@@ -103,6 +103,9 @@ fd_arguments fd_verb.Lseek args =
     option_map (λ p. op.Call (call.Lseek p.0 p.1 p.2)) (three fd_in offset_in whence_in args)
 fd_arguments fd_verb.Ftruncate args =
     option_map (λ p. op.Call (call.Ftruncate p.0 p.1)) (two fd_in number_in args)
+fd_arguments fd_verb.Fallocate args =
+    option_map (λ p. op.Call (call.Fallocate p.0 p.1 p.2 p.3))
+    (four fd_in offset_in offset_in space_in args)
 fd_arguments fd_verb.Dup2 args =
     option_map (λ p. op.Call (call.Dup2 p.0 p.1)) (two fd_in fd_in args)
 fd_arguments fd_verb.Fchmod args =
@@ -127,6 +130,8 @@ paths_arguments paths_verb.Link args =
     option_map (λ p. op.Call (call.Link p.0 p.1)) (two text_in text_in args)
 paths_arguments paths_verb.Rename args =
     option_map (λ p. op.Call (call.Rename p.0 p.1)) (two text_in text_in args)
+paths_arguments paths_verb.Exchange args =
+    option_map (λ p. op.Call (call.Exchange p.0 p.1)) (two text_in text_in args)
 paths_arguments paths_verb.Symlink args =
     option_map (λ p. op.Call (call.Symlink p.0 p.1)) (two text_in text_in args)
 

@@ -28,6 +28,7 @@ path_verb_in word =
     else if bytes_eq word (codes "lstat") then Some (verb.OnPath path.Lstat)
     else if bytes_eq word (codes "link") then Some (verb.OnPaths paths.Link)
     else if bytes_eq word (codes "rename") then Some (verb.OnPaths paths.Rename)
+    else if bytes_eq word (codes "exchange") then Some (verb.OnPaths paths.Exchange)
     else if bytes_eq word (codes "symlink") then Some (verb.OnPaths paths.Symlink)
     else bare_verb_in word
 
@@ -56,5 +57,6 @@ verb_in word =
     else if bytes_eq word (codes "lseek") then Some (verb.OnFd fd.Lseek)
     else if bytes_eq word (codes "ftruncate") then Some (verb.OnFd fd.Ftruncate)
     else if bytes_eq word (codes "truncate") then Some verb.Truncate
+    else if bytes_eq word (codes "fallocate") then Some (verb.OnFd fd.Fallocate)
     else if bytes_eq word (codes "dup2") then Some (verb.OnFd fd.Dup2)
     else if bytes_eq word (codes "mknod") then Some verb.Mknod else rights_verb_in word

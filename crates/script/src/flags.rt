@@ -2,11 +2,11 @@
 ghost use Rattle.std.specs.Prelude.{◌≡◌, option_map};
 ghost use Rattle.ids.specs.Flags.{open_bits};
 ghost use Rattle.script.specs.Flags.{begin_flags_in, flag_in, flags_in, special_in};
-ghost use Rattle.script.specs.Flags.{whence_in};
+ghost use Rattle.script.specs.Flags.{space_in, whence_in};
 
 use crate::pieces::Pieces;
 use crate::table::lookup;
-use ids::{BeginFlags, OpenFlags, Special, Whence};
+use ids::{BeginFlags, OpenFlags, Space, Special, Whence};
 
 // The names of single flags.
 static FLAGS: [(&str, OpenFlags); 6] = [
@@ -24,11 +24,20 @@ static BEGINS: [(&str, BeginFlags); 2] = [
     ("ABORT_UNSUPPORTED", BeginFlags::ABORT_UNSUPPORTED),
 ];
 
-// The names of the places from which an offset counts.
-static WHENCES: [(&str, Whence); 3] = [
+// The names of the places from which an offset counts, and of what it is to find.
+static WHENCES: [(&str, Whence); 5] = [
     ("SET", Whence::Set),
     ("CUR", Whence::Cur),
     ("END", Whence::End),
+    ("DATA", Whence::Data),
+    ("HOLE", Whence::Hole),
+];
+
+// The names of what becomes of a range of a file.
+static SPACES: [(&str, Space); 3] = [
+    ("GROW", Space::Grow),
+    ("KEEP", Space::Keep),
+    ("PUNCH", Space::Punch),
 ];
 
 // The names of what a mknod makes.
@@ -78,6 +87,13 @@ pub(crate) fn whence_in(word: &[u8]) -> Option<Whence>
     ensures { result ≡ whence_in word.now }
 {
     lookup(&WHENCES, word)
+}
+
+// What becomes of a range of a file.
+pub(crate) fn space_in(word: &[u8]) -> Option<Space>
+    ensures { result ≡ space_in word.now }
+{
+    lookup(&SPACES, word)
 }
 
 // What a mknod makes.

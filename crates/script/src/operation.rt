@@ -6,10 +6,10 @@ ghost use Rattle.script.specs.Operations.{one, path_arguments, paths_arguments, 
 ghost use Rattle.script.specs.Numbers.{byte_in, decimal_in, offset_in};
 ghost use Rattle.script.specs.Rights.{id_in, permissions_in};
 ghost use Rattle.script.specs.Texts.{text_in};
-ghost use Rattle.script.specs.Flags.{flags_in, special_in, whence_in};
+ghost use Rattle.script.specs.Flags.{flags_in, space_in, special_in, whence_in};
 ghost use Rattle.script.specs.Words.{Reads};
 
-use crate::flags::{begin_flags_in, flags_in, special_in, whence_in};
+use crate::flags::{begin_flags_in, flags_in, space_in, special_in, whence_in};
 use crate::limits::TRANSFER_LIMIT;
 use crate::number::{byte_in, number_in, offset_in};
 use crate::pieces::Pieces;
@@ -18,7 +18,7 @@ use crate::text::text_in;
 use crate::verb::{BareVerb, FdVerb, PathVerb, PathsVerb, Verb};
 use crate::word::{WordFault, op_spelled};
 use heap::Heap;
-use ids::{BeginFlags, Bytes, Call, Fd, NewOwner, Op, Permissions, Whence};
+use ids::{BeginFlags, Bytes, Call, Fd, NewOwner, Op, Permissions, Space, Whence};
 
 fn fd_in(word: &[u8]) -> Option<Fd>
     ensures { result ≡ fd_in word.now }
@@ -109,6 +109,19 @@ fn lseek_of(args: &mut Pieces<'_>) -> Option<(Fd, i64, Whence)>
     Some((fd_in(fd)?, offset_in(offset)?, whence_in(whence)?))
 }
 
+// A descriptor, an offset, a length and what becomes of the range.
+fn fallocate_of(args: &mut Pieces<'_>) -> Option<(Fd, i64, i64, Space)>
+    ensures { result ≡ four fd_in offset_in offset_in space_in args.old }
+{
+    let (fd, offset, length, space) = args.four()?;
+    Some((
+        fd_in(fd)?,
+        offset_in(offset)?,
+        offset_in(length)?,
+        space_in(space)?,
+    ))
+}
+
 // A descriptor and permissions.
 fn fchmod_of(args: &mut Pieces<'_>) -> Option<(Fd, Permissions)>
     ensures { result ≡ two fd_in permissions_in args.old }
@@ -174,6 +187,10 @@ fn fd_arguments(verb: FdVerb, args: &mut Pieces<'_>) -> Option<Op>
             let (fd, len) = fd_and_number(args, u32::MAX)?;
             Call::Ftruncate(fd, len)
         }
+        FdVerb::Fallocate => {
+            let (fd, offset, length, space) = fallocate_of(args)?;
+            Call::Fallocate(fd, offset, length, space)
+        }
         FdVerb::Dup2 => {
             let (fd, other) = fd_and_number(args, u32::MAX)?;
             Call::Dup2(fd, Fd(other))
@@ -220,6 +237,7 @@ fn paths_arguments(heap: Heap, verb: PathsVerb, args: &mut Pieces<'_>) -> Result
     Ok(Op::Call(match verb {
         PathsVerb::Link => Call::Link(old, new),
         PathsVerb::Rename => Call::Rename(old, new),
+        PathsVerb::Exchange => Call::Exchange(old, new),
         PathsVerb::Symlink => Call::Symlink(old.shared(), new),
     }))
 }

@@ -32,6 +32,7 @@ pub(crate) enum FdVerb {
     Pread,
     Lseek,
     Ftruncate,
+    Fallocate,
     Dup2,
     Fchmod,
     Fchown,
@@ -54,6 +55,7 @@ pub(crate) enum PathVerb {
 pub(crate) enum PathsVerb {
     Link,
     Rename,
+    Exchange,
     Symlink,
 }
 
@@ -69,7 +71,7 @@ pub(crate) enum BareVerb {
 }
 
 // The words, and what each names.
-static VERBS: [(&str, Verb); 35] = [
+static VERBS: [(&str, Verb); 37] = [
     ("open", Verb::Open),
     ("close", Verb::OnFd(FdVerb::Close)),
     ("fstat", Verb::OnFd(FdVerb::Fstat)),
@@ -83,6 +85,7 @@ static VERBS: [(&str, Verb); 35] = [
     ("lseek", Verb::OnFd(FdVerb::Lseek)),
     ("ftruncate", Verb::OnFd(FdVerb::Ftruncate)),
     ("truncate", Verb::Truncate),
+    ("fallocate", Verb::OnFd(FdVerb::Fallocate)),
     ("dup2", Verb::OnFd(FdVerb::Dup2)),
     ("mknod", Verb::Mknod),
     ("chmod", Verb::Chmod),
@@ -98,6 +101,7 @@ static VERBS: [(&str, Verb); 35] = [
     ("lstat", Verb::OnPath(PathVerb::Lstat)),
     ("link", Verb::OnPaths(PathsVerb::Link)),
     ("rename", Verb::OnPaths(PathsVerb::Rename)),
+    ("exchange", Verb::OnPaths(PathsVerb::Exchange)),
     ("symlink", Verb::OnPaths(PathsVerb::Symlink)),
     ("pipe", Verb::Bare(BareVerb::Pipe)),
     ("fork", Verb::Bare(BareVerb::Fork)),

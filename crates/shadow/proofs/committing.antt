@@ -1,6 +1,8 @@
 pub mod HolderCounts
 pub mod SlotSteps
+pub mod SlotSums
 pub mod TableSteps
+pub mod LaidTables
 pub mod ProcessSteps
 pub mod InodeSteps
 pub mod FileBytes
@@ -18,3 +20,4 @@ pub mod PlaceAfterChanges
 pub mod UntidiedState
 pub mod InodesAfterChanges
 pub mod RightsSteps
+pub mod HeldSteps

@@ -4,6 +4,7 @@ pub mod Exit
 pub mod PipeBytes
 pub mod DirectoryNames
 pub mod LinksAndMoves
+pub mod Exchanges
 pub mod FileBytes
 pub mod NewInodes
 pub mod RemovedNames

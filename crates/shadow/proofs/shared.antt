@@ -1,9 +1,7 @@
-pub mod Outcomes
 pub mod PipePairLemmas
-pub mod EditPairs
 pub mod FixedKinds
 pub mod PlaceLemmas
 pub mod ProcessLemmas
 pub mod CommittedLemmas
-pub mod SortedKeys
 pub mod SoundnessLemmas
+pub mod RisingKeys

@@ -3,4 +3,5 @@ pub mod SlotTurnover
 pub mod StoredHolders
 pub mod PipePairs
 pub mod DirectoryRoom
+pub mod LowestFree
 pub mod KindsStay

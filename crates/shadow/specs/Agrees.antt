@@ -11,16 +11,16 @@ use Rattle.freeing_laws.specs.Counts.{times}
 use Rattle.freeing_laws.specs.Left.{named_along, unnamed_along}
 use Rattle.freeing_laws.specs.Pipes.{ArePair}
 use Rattle.freeing_laws.specs.Sweep.{AllFit}
-use Rattle.shadow.specs.declared.change.Made.{Made}
-use Rattle.shadow.specs.declared.change.Made.TheVariants.{Directory, File, Pipe, Fixed}
-use Rattle.shadow.specs.declared.opening.Opening.{Opening}
-use Rattle.shadow.specs.declared.opening.Opening.TheVariants.{Kept, New, Moved}
+use Rattle.notes.specs.declared.change.Made.{Made}
+use Rattle.notes.specs.declared.change.Made.TheVariants.{Directory, File, Pipe, Fixed}
+use Rattle.notes.specs.declared.opening.Opening.{Opening}
+use Rattle.notes.specs.declared.opening.Opening.TheVariants.{Kept, New, Moved}
 use Rattle.shadow.specs.Claims.{Claim, claimed, claim_in}
-use Rattle.shadow.specs.Patches.{AllReach, Form, no_change, of_names, of_bytes, of_pipe, of_fixed}
-use Rattle.shadow.specs.Patches.{Patches, new_ends}
-use Rattle.shadow.specs.Patches.{added_by, form_of, kept_at, net_at, opening_at, patched, reopened}
-use Rattle.shadow.specs.Patches.{numbers_in, reslotted, rights_over, slots_in}
-use Rattle.shadow.specs.Steps.{blocks_by}
+use Rattle.notes.specs.Patches.{AllReach, Form, no_change, of_names, of_bytes, of_pipe, of_fixed}
+use Rattle.notes.specs.Patches.{Patches, new_ends}
+use Rattle.notes.specs.Patches.{added_by, form_of, kept_at, net_at, opening_at, patched, reopened}
+use Rattle.notes.specs.Patches.{numbers_in, reslotted, rights_over, slots_in}
+use Rattle.notes.specs.Steps.{blocks_by}
 
 -- The kind of what stands below changes: an object that is new was made so, and any other is of
 -- that kind already.
@@ -49,7 +49,7 @@ pub record Agrees (ds : List Effect) (p : Patches) : Type 0 where
   -- is a state that they fit
   pub root : (k : Kernel) → (all_done ds k).root ≡ k.root
   pub count : (k : Kernel) → (all_done ds k).made ≡ k.made
-  pub largest : (k : Kernel) → (all_done ds k).largest ≡ k.largest
+  pub bounds : (k : Kernel) → (all_done ds k).bounds ≡ k.bounds
   pub inodes : (k : Kernel) (n : ℕ) → AllFit ds k
       → get (all_done ds k).inodes n ≡ patched (net_at p.inodes n).contents (get k.inodes n)
   pub rights : (k : Kernel) (n : ℕ)

@@ -12,12 +12,12 @@ use Rattle.model.specs.Moments.{is_in}
 use Rattle.model.specs.Effects.{Effect}
 use Rattle.freeing_laws.specs.Counts.{times}
 use Rattle.shadow.specs.Committed.{Committed, Reserve}
-use Rattle.shadow.specs.Patches.{Net, Patches, is_new, net_at, opening_at}
-use Rattle.shadow.specs.Steps.{directories_in, files_in, opened_in, parents_in}
-use Rattle.shadow.specs.declared.change.InodeChange.{InodeChange}
-use Rattle.shadow.specs.declared.change.Made.{Made}
-use Rattle.shadow.specs.declared.change.Made.TheVariants.{Directory, File, Pipe, Fixed}
-use Rattle.shadow.specs.declared.opening.Opening.{Opening}
+use Rattle.notes.specs.Patches.{Net, Patches, is_new, net_at, opening_at}
+use Rattle.notes.specs.Steps.{directories_in, files_in, opened_in, parents_in}
+use Rattle.notes.specs.declared.change.InodeChange.{InodeChange}
+use Rattle.notes.specs.declared.change.Made.{Made}
+use Rattle.notes.specs.declared.change.Made.TheVariants.{Directory, File, Pipe, Fixed}
+use Rattle.notes.specs.declared.opening.Opening.{Opening}
 
 -- room for one more name in a directory, a number for a directory to come, or one for another object
 pub data Claim : Type 0 where

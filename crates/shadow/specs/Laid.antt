@@ -1,15 +1,16 @@
 -- What a commit makes of the places and of the processes, part by part.
 use Rattle.std.specs.Prelude.{◌≡◌, ◌≢◌, ℕ, ◌<◌, ◌≤◌, ◌+◌, ◌-◌, ◌^◌, Bool, true, false, List, [], ◌∷◌}
-use Rattle.std.specs.Prelude.{length, Option, Some, None, IfSome, is_some, option_map, count_by}
+use Rattle.std.specs.Prelude.{⊤, length, Option, Some, None, IfSome, is_some, option_map, count_by}
 use Rattle.ids.specs.declared.limits.TheConstants.{DESCRIPTORS, PIPE_CAPACITY}
 use Rattle.std.specs.Prelude.{if◌then◌else◌}
 use Rattle.std.specs.Ordering.{nat_cmp}
 use Rattle.std.specs.List.{AllByRecursion, flat_map}
 use Rattle.model.specs.FiniteMap.{FinMap, entries, get}
 use Rattle.model.specs.State.{Description, Kernel, Kind, Name, Process, Rights, kind_of, names_of}
-use Rattle.model.specs.Changes.{holders, openings, or_new}
+use Rattle.model.specs.Changes.{Edit, Open_inode, Share_slot, holders, openings, or_new}
 use Rattle.dirlist.specs.Listing.{Listing}
 use Rattle.dirlist.specs.Patches.{Notes}
+use Rattle.fdtable.specs.Pages.{HasRoom}
 use Rattle.fdtable.specs.Patches.{Given}
 use Rattle.file_shadow.specs.View.{FileChanges, view_over}
 use Rattle.pipe_shadow.specs.View.{PipeChanges, view_over as pipe_over}
@@ -28,17 +29,17 @@ use Rattle.store.specs.declared.Object.TheVariants.{Fixed as A_fixed}
 use Rattle.store.specs.declared.OpenFile.{OpenFile}
 use Rattle.store.specs.declared.Opened.{Opened}
 use Rattle.store.specs.declared.OpenPipe.{OpenPipe}
-use Rattle.shadow.specs.declared.change.InodeChange.{InodeChange}
-use Rattle.shadow.specs.declared.change.Contents.{Contents}
-use Rattle.shadow.specs.declared.change.Contents.TheVariants.{Same, Names, Bytes, Pipe as Piped}
-use Rattle.shadow.specs.declared.change.Contents.TheVariants.{Fixed as As_fixed}
-use Rattle.shadow.specs.declared.opening.Opening.{Opening}
-use Rattle.shadow.specs.declared.opening.Opening.TheVariants.{New}
+use Rattle.notes.specs.declared.change.InodeChange.{InodeChange}
+use Rattle.notes.specs.declared.change.Contents.{Contents}
+use Rattle.notes.specs.declared.change.Contents.TheVariants.{Same, Names, Bytes, Pipe as Piped}
+use Rattle.notes.specs.declared.change.Contents.TheVariants.{Fixed as As_fixed}
+use Rattle.notes.specs.declared.opening.Opening.{Opening}
+use Rattle.notes.specs.declared.opening.Opening.TheVariants.{New}
 use Rattle.shadow.specs.Claims.{Claim, reserved}
 use Rattle.shadow.specs.Committed.{Reserve}
-use Rattle.shadow.specs.Openings.{slot_noted}
-use Rattle.shadow.specs.Patches.{is_new, kept_at, net_at, opening_at, patched, reopened, reslotted}
-use Rattle.shadow.specs.Patches.{rights_over}
+use Rattle.notes.specs.Openings.{slot_noted}
+use Rattle.notes.specs.Patches.{is_new, kept_at, net_at, opening_at, patched, reopened, reslotted}
+use Rattle.notes.specs.Patches.{rights_over}
 use Rattle.shadow.specs.Stored.{AreCounted, IsEndHere, IsStaged, Processes, committed_of, no_processes, numbered, reserve_in, state_of}
 
 -- what is kept for transactions
@@ -190,17 +191,44 @@ pub record SlotsStay (ps qs : Processes) (old new : Numbers) : Type 0 where
   pub descriptions : descriptions new ≡ descriptions old
   pub reserves : (n : ℕ) → get (reserves_of new) n ≡ get (reserves_of old) n
   pub count : length qs.list ≡ length ps.list
-  pub largest : qs.largest ≡ ps.largest
+  pub bounds : qs.bounds ≡ ps.bounds
   pub low : AreLow ps → AreLow qs
   pub counted : AreLow ps → AreCounted ps old → AreCounted qs new
 
 -- of a count of holders, after a slot more that gives a description, and after one less
 abbrev pub IsOneMore : Option ℕ → ℕ → ℕ → ℕ → Type 0
 IsOneMore given d before after =
-    before + 1 < 2 ^ 128 → after ≡ before + times d (listed given)
+    before + times d (listed given) < 2 ^ 128 → after ≡ before + times d (listed given)
 
 abbrev pub IsOneLess : Option ℕ → ℕ → ℕ → ℕ → Type 0
 IsOneLess former d before after = after ≡ before - times d (listed former)
+
+-- how many slots of a patch give a description; and of its count of holders, after as many slots more
+-- that give it, and after as many less
+abbrev pub giving : Given → ℕ → ℕ
+giving patch d = times d (flat_map (λ g. given_by g.1) (entries patch))
+
+abbrev pub IsMoreBy : Given → ℕ → ℕ → ℕ → Type 0
+IsMoreBy patch d before after =
+    before + giving patch d < 2 ^ 128 → after ≡ before + giving patch d
+
+abbrev pub IsLessBy : Given → ℕ → ℕ → ℕ → Type 0
+IsLessBy former d before after = after ≡ before - giving former d
+
+-- and after as many less as it stands in a list
+abbrev pub IsLessOf : List ℕ → ℕ → ℕ → ℕ → Type 0
+IsLessOf ds d before after = after ≡ before - times d ds
+
+-- an edit that opens a slot, for which memory may be asked for, and room for that slot
+abbrev pub MayNeedRoom : Edit → Type 0
+MayNeedRoom (Open_inode i inode mode pid f) = ⊤
+MayNeedRoom (Share_slot pid f d pipes) = ⊤
+MayNeedRoom _ = ⊥
+
+abbrev pub FitsRoom : Edit → List Bool → Type 0
+FitsRoom (Open_inode i inode mode pid f) room = HasRoom room f
+FitsRoom (Share_slot pid f d pipes) room = HasRoom room f
+FitsRoom _ room = ⊥
 
 -- A description that is shown was shown before, and its count of holders changed so.
 pub record WasHeld (R : ℕ → ℕ → Type 0) (old : Numbers) (d : ℕ) (opened : Opened) : Type 0 where

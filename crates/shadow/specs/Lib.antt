@@ -1,12 +1,7 @@
 pub mod Committed
-pub mod Patches
-pub mod Steps
-pub mod Notes
-pub mod Openings
 pub mod Claims
 pub mod Looks
 pub mod Stored
 pub mod Effects
 pub mod Laid
-pub mod Log
 pub mod Agrees

@@ -8,7 +8,7 @@ use Rattle.freeing_laws.specs.Sweep.{AllFit}
 use Rattle.shadow.specs.Committed.{Committed}
 use Rattle.shadow.specs.Claims.{IsDirectory}
 use Rattle.shadow.specs.Agrees.{IsOver}
-use Rattle.shadow.specs.Patches.{Net, form_of, patched}
+use Rattle.notes.specs.Patches.{Net, form_of, patched}
 
 -- no changes, for a process in no transaction
 abbrev pub changes_of : Option (List Effect) → List Effect
@@ -32,8 +32,8 @@ pub record IsNet (ds : List Effect) (n : ℕ) (net : Net) : Type 0 where
   pub links : (k : Kernel) → AllFit ds k
       → links (all_done ds k) n + net.unnamed ≡ links k n + net.named
 
--- Changes leave the root, the largest file, the count of processes and the priorities.
+-- Changes leave the root, the bounds, the count of processes and the priorities.
 pub record KeepsRest (ds : List Effect) : Type 0 where
   pub root : (k : Kernel) → (all_done ds k).root ≡ k.root
-  pub largest : (k : Kernel) → (all_done ds k).largest ≡ k.largest
+  pub bounds : (k : Kernel) → (all_done ds k).bounds ≡ k.bounds
   pub birth : (k : Kernel) (pid : ℕ) → birth_of (all_done ds k) pid ≡ birth_of k pid

@@ -22,15 +22,16 @@ use Rattle.store.specs.declared.Object.TheVariants.{Description as A_description
 use Rattle.store.specs.declared.Stage.{Stage}
 use Rattle.store.specs.declared.Stage.TheVariants.{Coming, Held, Removed}
 use Rattle.shadow.specs.Committed.{Committed, Reserve}
+use Rattle.model.specs.Limits.{Bounds, default_bounds}
 
 -- the processes from number 1 on, of which one that has ended leaves its place empty; and beside
--- them the most bytes of a file
+-- them the bounds
 pub record Processes : Type 0 where
   pub list : List (Option Process)
-  pub largest : ℕ
+  pub bounds : Bounds
 
 abbrev pub no_processes : Processes
-no_processes = record { list = []; largest = 0 }
+no_processes = record { list = []; bounds = default_bounds }
 
 -- with another at this number, and with one more behind
 abbrev pub with_process : ℕ → Option Process → Processes → Processes
@@ -52,7 +53,7 @@ stored processes inodes rights descriptions = record {
   descriptions = descriptions;
   processes = numbered processes;
   made = length processes.list;
-  largest = processes.largest;
+  bounds = processes.bounds;
 }
 
 abbrev pub state_of : Processes → Numbers → Kernel

@@ -2,31 +2,29 @@
 ghost use Rattle.std.specs.Prelude.{◌≡◌, ◌≤◌, ◌<◌, ◌+◌, ◌∷◌, [], ℕ, List, Some, IfOk, OnErr, OnOk};
 ghost use Rattle.std.specs.Prelude.{length};
 ghost use Rattle.std.specs.List.{sum_by};
-ghost use Rattle.ids.specs.declared.limits.TheConstants.{DESCRIPTORS, LARGEST_FILE};
+ghost use Rattle.ids.specs.declared.limits.TheConstants.{LARGEST_FILE};
 ghost use Rattle.model.specs.State.{A_file, kind_of};
-ghost use Rattle.model.specs.Changes.{Append, Cut, Make_directory, Make_file, Make_fixed, Make_pipe};
-ghost use Rattle.model.specs.Changes.{Move, Name_file, Open_inode, Put_bytes, Set_offset, Set_rights};
-ghost use Rattle.model.specs.Changes.{Take, There};
+ghost use Rattle.model.specs.Changes.{Append, Cut, Make_directory, Make_file, Make_fixed, Move};
+ghost use Rattle.model.specs.Changes.{Name_file, Put_bytes, Set_rights, Take};
 ghost use Rattle.model.specs.Changes.{all_applied, applied, news, tidy};
 ghost use Rattle.call_laws.specs.Fits.{Fits, FitsAll};
 ghost use Rattle.shadow.specs.Claims.{AreUnused, Claim, Covers, HaveParents, KeepsMore, KeepsSame};
 ghost use Rattle.shadow.specs.Claims.{claimed_by, claimed_by_one, reserved};
-ghost use Rattle.shadow.specs.Log.{effect};
-ghost use Rattle.shadow.specs.Steps.{CanEdit, IsFirst, IsLast, IsNaming, TakesNoMemory};
-ghost use Rattle.shadow.specs.Steps.{slotting, unnaming};
-ghost use Rattle.shadow.specs.declared.change.Made.{Made as What};
+ghost use Rattle.notes.specs.Log.{effect};
+ghost use Rattle.notes.specs.Steps.{CanEdit, IsFirst, IsNaming, TakesNoMemory, unnaming};
+ghost use Rattle.notes.specs.declared.change.Made.{Made as What};
 
-use crate::claiming::parent_of;
-use crate::closing::{close, free};
-use crate::laying::{open, pipe_len};
-use crate::patches::{at_start, end_of, inode_replaced, is_last, number};
-use crate::reslotting::lay_slot;
+use crate::claiming::parents_of;
+use crate::closing::free;
+use crate::laying::pipe_len;
+use crate::slotting::room_for;
 use crate::stable::Stable;
 use heap::Heap;
-use ids::{Edit, Fd, Fixed, Mode, Name, Num, Nums, Pid, Replaced, Rights};
-use objects::{FileData, PipeData};
+use ids::{Edit, Fixed, Name, Num, Nums, Replaced, Rights};
+use notes::{inode_replaced, is_last};
+use objects::FileData;
 use std::alloc::AllocError;
-use store::{Object, OpenFile, OpenPipe};
+use store::{Object, OpenFile};
 
 impl Stable {
     /// Makes the changes of one call at once, with new numbers for what they make, which are
@@ -43,12 +41,12 @@ impl Stable {
         ensures err { OnErr result (self.new.state ≡ self.old.state) }
     {
         let heap = *edits.allocator();
-        let parent = parent_of(edits.as_slice());
+        let parents = parents_of(edits.as_slice());
         let chosen = self.claim(heap, edits.as_slice())?;
         match self.perform(chosen.as_slice(), edits) {
             Ok(()) => Ok(chosen),
             Err(AllocError) => {
-                self.release_claims(chosen.as_slice(), parent);
+                self.release_claims(chosen.as_slice(), parents);
                 drop(chosen);
                 Err(AllocError)
             }
@@ -96,15 +94,16 @@ impl Stable {
         ensures same { OnErr result (KeepsSame self.old self.new) }
     {
         if is_last(&edit) {
-            self.perform_last(chosen, &edit);
+            let performed = self.perform_last(chosen, &edit, None);
             drop(edit);
-            Ok(())
+            performed
         } else {
             self.perform_first(chosen, edit)
         }
     }
 
-    // A call with two edits. Refused memory changes nothing.
+    // A call with two edits: room for the slot of the second is made first. Refused memory changes
+    // nothing.
     fn perform_two(&mut self, chosen: &[Num], first: Edit, last: &Edit) -> Result<(), AllocError>
         requires kinds { CanEdit (first ∷ last.now ∷ []) }
         requires count { length chosen.now ≡ sum_by news (first ∷ last.now ∷ []) }
@@ -119,9 +118,16 @@ impl Stable {
     {
         // For the proof: the state is tidied before the change.
         self.state_is_tidied();
-        self.perform_first(chosen, first)?;
-        self.perform_last(chosen, last);
-        Ok(())
+        match room_for(self.heap(), last) {
+            Ok(room) => {
+                self.perform_first(chosen, first)?;
+                self.perform_last(chosen, last, room)
+            }
+            Err(refused) => {
+                drop(first);
+                Err(refused)
+            }
+        }
     }
 
     // An edit of a name, of bytes or of rights, or a new pipe. Refused memory changes nothing.
@@ -174,6 +180,11 @@ impl Stable {
         // For the proof: the state is tidied before the change.
         self.state_is_tidied();
         match edit {
+            Edit::Wipe {
+                file,
+                offset,
+                count,
+            } => self.wipe(file, offset as usize, count as usize),
             Edit::Cut { file, length, .. } => self.cut(file, length as usize),
             Edit::Take { pipe, count } => self.take(pipe, count as usize),
             Edit::Append { pipe, bytes } => {
@@ -229,45 +240,7 @@ impl Stable {
                 self.rename(from, &old_name, to, new_name, inode, replaced);
                 drop(old_name);
             }
-            _ => unreachable!(),
-        }
-    }
-
-    // An edit of a description or a slot. It takes no memory.
-    fn perform_last(&mut self, chosen: &[Num], edit: &Edit)
-        requires last { (m : ℕ) × IsLast m edit.now × (m + news edit.now ≤ length chosen.now) }
-        requires fits { Fits chosen.now self.old.state edit.now }
-        requires covers { (c : Claim) → claimed_by_one c chosen.now edit.now ≤ reserved self.old c }
-        ensures state { self.new.state ≡ tidy (applied chosen.now edit.now self.old.state) }
-        ensures kept { KeepsMore self.new self.old (λ c. claimed_by_one c chosen.now edit.now) }
-    {
-        match edit {
-            Edit::OpenInode {
-                index,
-                inode,
-                mode,
-                process,
-                descriptor,
-            } => {
-                let inode = number(chosen, *inode);
-                self.open_inode(chosen[*index as usize], inode, *mode, *process, *descriptor);
-            }
-            Edit::SetOffset {
-                description,
-                offset,
-            } => self.store.set_offset(*description, *offset),
-            Edit::ShareSlot {
-                process,
-                descriptor,
-                description,
-                ..
-            } => self.reslot(*process, *descriptor, Some(*description)),
-            Edit::ClearSlot {
-                process,
-                descriptor,
-                ..
-            } => self.reslot(*process, *descriptor, None),
-            _ => unreachable!(),
+            other => self.exchange(chosen, other),
         }
     }
 
@@ -313,49 +286,6 @@ impl Stable {
     {
         self.store.install_as(num, Object::Fixed(fixed));
         self.store.add_name(parent, name, num);
-    }
-
-    // The new pipe of a reserved number is there, with the descriptors and the descriptions of its two
-    // ends. Refused memory changes nothing.
-    fn make_pipe(
-        &mut self,
-        pipe: Num,
-        pid: Pid,
-        reading: (Fd, Num),
-        writing: (Fd, Num),
-    ) -> Result<(), AllocError>
-        requires fits { Fits (pipe ∷ reading.1 ∷ writing.1 ∷ []) self.old.state
-            (Make_pipe 0 pid reading.0 writing.0) }
-        requires low { (reading.0 < DESCRIPTORS) × (writing.0 < DESCRIPTORS) }
-        requires covers { (c : Claim)
-            → claimed_by_one c (pipe ∷ reading.1 ∷ writing.1 ∷ [])
-            (Make_pipe 0 pid reading.0 writing.0) ≤ reserved self.old c }
-        ensures state { OnOk result (self.new.state
-            ≡ tidy (applied (pipe ∷ reading.1 ∷ writing.1 ∷ [])
-            (Make_pipe 0 pid reading.0 writing.0) self.old.state)) }
-        ensures kept { OnOk result (KeepsMore self.new self.old
-            (λ c. claimed_by_one c (pipe ∷ reading.1 ∷ writing.1 ∷ [])
-            (Make_pipe 0 pid reading.0 writing.0))) }
-        ensures err { OnErr result (self.new.state ≡ self.old.state) }
-        ensures same { OnErr result (KeepsSame self.old self.new) }
-    {
-        let bytes = PipeData::new(self.heap())?;
-        let reader = reading.1;
-        let writer = writing.1;
-        self.store.install_as(
-            pipe,
-            Object::Pipe(OpenPipe {
-                bytes,
-                reader,
-                writer,
-            }),
-        );
-        open(&mut self.store, reader, end_of(pipe, false));
-        open(&mut self.store, writer, end_of(pipe, true));
-        let store = &mut self.store;
-        let _none = lay_slot(store, &mut self.processes, pid, reading.0, Some(reader));
-        let _none = lay_slot(store, &mut self.processes, pid, writing.0, Some(writer));
-        Ok(())
     }
 
     // One more name for a file, or for anything else that is no directory, in the room that is kept
@@ -455,36 +385,5 @@ impl Stable {
         ensures kept { KeepsSame self.old self.new }
     {
         self.store.set_rights(inode, rights);
-    }
-
-    // The new description of a reserved number is there, with its slot.
-    fn open_inode(&mut self, num: Num, inode: Num, mode: Mode, pid: Pid, fd: Fd)
-        requires fits { Fits (num ∷ []) self.old.state (Open_inode 0 (There inode) mode pid fd) }
-        requires low { fd < DESCRIPTORS }
-        requires covers { (c : Claim)
-            → claimed_by_one c (num ∷ []) (Open_inode 0 (There inode) mode pid fd)
-            ≤ reserved self.old c }
-        ensures state { self.new.state
-            ≡ tidy (applied (num ∷ []) (Open_inode 0 (There inode) mode pid fd) self.old.state) }
-        ensures kept { KeepsMore self.new self.old
-            (λ c. claimed_by_one c (num ∷ []) (Open_inode 0 (There inode) mode pid fd)) }
-    {
-        open(&mut self.store, num, at_start(inode, mode));
-        let _none = lay_slot(&mut self.store, &mut self.processes, pid, fd, Some(num));
-    }
-
-    // A slot gives this description from now on, or is closed. The description that it gave goes
-    // where no other slot gives it.
-    fn reslot(&mut self, pid: Pid, fd: Fd, given: Option<Num>)
-        requires fits { (pipes : List ℕ) × Fits [] self.old.state (slotting given pid fd pipes) }
-        requires low { fd < DESCRIPTORS }
-        ensures state { (pipes : List ℕ) → Fits [] self.old.state (slotting given pid fd pipes)
-            → self.new.state ≡ tidy (applied [] (slotting given pid fd pipes) self.old.state) }
-        ensures kept { KeepsSame self.old self.new }
-    {
-        let former = lay_slot(&mut self.store, &mut self.processes, pid, fd, given);
-        if let Some(description) = former {
-            close(&mut self.store, description);
-        }
     }
 }

@@ -1,6 +1,6 @@
 // What is kept of the committed state for a transaction's changes, and given back.
 ghost use Rattle.std.specs.Prelude.{ℕ, ◌≡◌, ◌≢◌, ◌≤◌, ◌<◌, Bool, List, None, Some, IfOk, OnErr, OnOk};
-ghost use Rattle.std.specs.Prelude.{is_some};
+ghost use Rattle.std.specs.Prelude.{[], ◌++◌, is_some};
 ghost use Rattle.std.specs.List.{AllByRecursion, flat_map};
 ghost use Rattle.model.specs.FiniteMap.{get};
 ghost use Rattle.model.specs.Changes.{Make_pipe};
@@ -12,39 +12,38 @@ ghost use Rattle.shadow.specs.Claims.{IsDirectory, IsReserved, KeepsMore, KeepsS
 ghost use Rattle.shadow.specs.Claims.{claimed_by, claimed_in, inode_claim, inodes_claim, new_number};
 ghost use Rattle.shadow.specs.Claims.{Stays, number_as, openings_claim, reserved, room_in};
 ghost use Rattle.shadow.specs.Claims.{with_kinds};
-ghost use Rattle.shadow.specs.Log.{effect};
-ghost use Rattle.shadow.specs.Patches.{net_of};
-ghost use Rattle.shadow.specs.Steps.{AreApart, CanEdit, parents_in};
+ghost use Rattle.notes.specs.Log.{effect};
+ghost use Rattle.notes.specs.Patches.{net_of};
+ghost use Rattle.notes.specs.Steps.{AreApart, CanEdit, parents_in};
 ghost use Rattle.shadow.specs.Stored.{IsBare};
 
-use crate::change::InodeChange;
-use crate::inodes::Inodes;
-use crate::opening::{Opening, Openings};
-use crate::patches::Patches;
 use crate::stable::Stable;
 use dirlist::Dir;
 use heap::Heap;
 use ids::{Edit, Num, Nums};
+use notes::{InodeChange, Inodes, Opening, Openings, Patches};
 use std::alloc::AllocError;
 use store::Object;
 
-/// The directory to which a call adds a name, if it adds one.
-pub(crate) fn parent_of(edits: &[Edit]) -> Option<Num>
+/// The directories to which a call adds a name, or in which it gives one anew: two where names change
+/// places.
+pub(crate) fn parents_of(edits: &[Edit]) -> (Option<Num>, Option<Num>)
     requires { CanEdit edits.now }
-    ensures { listed result ≡ flat_map parents_in edits.now }
+    ensures { listed result.0 ++ listed result.1 ≡ flat_map parents_in edits.now }
 {
     match edits.first() {
-        Some(Edit::MakeDirectory { parent, .. }) => Some(*parent),
-        Some(Edit::MakeFile { parent, .. }) => Some(*parent),
-        Some(Edit::MakeFixed { parent, .. }) => Some(*parent),
-        Some(Edit::NameFile { parent, .. }) => Some(*parent),
-        Some(Edit::Move { to, .. }) => Some(*to),
-        _ => None,
+        Some(Edit::MakeDirectory { parent, .. }) => (Some(*parent), None),
+        Some(Edit::MakeFile { parent, .. }) => (Some(*parent), None),
+        Some(Edit::MakeFixed { parent, .. }) => (Some(*parent), None),
+        Some(Edit::NameFile { parent, .. }) => (Some(*parent), None),
+        Some(Edit::Move { to, .. }) => (Some(*to), None),
+        Some(Edit::Swap { first, second, .. }) => (Some(*first), Some(*second)),
+        _ => (None, None),
     }
 }
 
 impl Stable {
-    /// New numbers for what a call makes, and room for the name that it adds. Refused memory
+    /// New numbers for what a call makes, and room for the names that it adds. Refused memory
     /// changes nothing.
     pub(crate) fn claim(&mut self, heap: Heap, edits: &[Edit]) -> Result<Nums, AllocError>
         requires kinds { CanEdit edits.now }
@@ -57,16 +56,13 @@ impl Stable {
         ensures err { OnErr result (KeepsSame self.old self.new) }
     {
         let chosen = self.claim_numbers(heap, edits)?;
-        match parent_of(edits) {
-            None => Ok(chosen),
-            Some(parent) => match self.promise(parent) {
-                Ok(()) => Ok(chosen),
-                Err(AllocError) => {
-                    self.release_claims(chosen.as_slice(), None);
-                    drop(chosen);
-                    Err(AllocError)
-                }
-            },
+        match self.promise_both(parents_of(edits)) {
+            Ok(()) => Ok(chosen),
+            Err(AllocError) => {
+                self.release_claims(chosen.as_slice(), (None, None));
+                drop(chosen);
+                Err(AllocError)
+            }
         }
     }
 
@@ -82,7 +78,7 @@ impl Stable {
             match self.claim_number(edit, &mut chosen) {
                 Ok(()) => (),
                 Err(AllocError) => {
-                    self.release_claims(chosen.as_slice(), None);
+                    self.release_claims(chosen.as_slice(), (None, None));
                     return Err(AllocError);
                 }
             }
@@ -161,21 +157,66 @@ impl Stable {
         Ok(num)
     }
 
-    /// Gives back new numbers, and the room of a name. It takes no memory.
-    pub(crate) fn release_claims(&mut self, chosen: &[Num], parent: Option<Num>)
+    /// Gives back new numbers, and the room of names. It takes no memory.
+    pub(crate) fn release_claims(&mut self, chosen: &[Num], parents: (Option<Num>, Option<Num>))
         requires { (bs : List Bool) × ((c : Claim)
-            → claimed_in c (with_kinds chosen.now bs) (listed parent) ≤ reserved self.old c) }
+            → claimed_in c (with_kinds chosen.now bs) (listed parents.0 ++ listed parents.1)
+            ≤ reserved self.old c) }
         ensures kept { (bs : List Bool) → ((c : Claim)
-            → claimed_in c (with_kinds chosen.now bs) (listed parent) ≤ reserved self.old c)
+            → claimed_in c (with_kinds chosen.now bs) (listed parents.0 ++ listed parents.1)
+            ≤ reserved self.old c)
             → KeepsMore self.new self.old
-            (λ c. claimed_in c (with_kinds chosen.now bs) (listed parent)) }
+            (λ c. claimed_in c (with_kinds chosen.now bs) (listed parents.0 ++ listed parents.1)) }
         ensures state { self.new.state ≡ self.old.state }
     {
         for num in chosen {
             self.give_back(*num);
         }
-        match parent {
-            Some(parent) => self.unpromise(parent),
+        self.unpromise_in(parents.0);
+        self.unpromise_in(parents.1);
+    }
+
+    // Promises room for one more name in each of these directories. Refused memory changes nothing.
+    fn promise_both(&mut self, parents: (Option<Num>, Option<Num>)) -> Result<(), AllocError>
+        requires { AllByRecursion
+            (IsDirectory self.old.reserves) (listed parents.0 ++ listed parents.1) }
+        ensures kept { OnOk result (KeepsMore self.old self.new
+            (λ c. claimed_in c [] (listed parents.0 ++ listed parents.1))) }
+        ensures state { self.new.state ≡ self.old.state }
+        ensures err { OnErr result (KeepsSame self.old self.new) }
+    {
+        self.promise_in(parents.0)?;
+        match self.promise_in(parents.1) {
+            Ok(()) => Ok(()),
+            Err(AllocError) => {
+                self.unpromise_in(parents.0);
+                Err(AllocError)
+            }
+        }
+    }
+
+    // Promises room for one more name in a directory, if there is one. Refused memory changes nothing.
+    fn promise_in(&mut self, dir: Option<Num>) -> Result<(), AllocError>
+        requires { AllByRecursion (IsDirectory self.old.reserves) (listed dir) }
+        ensures kept { OnOk result (KeepsMore self.old self.new (λ c. claimed_in c [] (listed dir))) }
+        ensures state { self.new.state ≡ self.old.state }
+        ensures stays { OnOk result (Stays self.old self.new) }
+        ensures err { OnErr result (self.new ≡ self.old) }
+    {
+        match dir {
+            Some(dir) => self.promise(dir),
+            None => Ok(()),
+        }
+    }
+
+    // Gives up the promised room of one name in a directory, if there is one. It takes no memory.
+    fn unpromise_in(&mut self, dir: Option<Num>)
+        requires { (c : Claim) → claimed_in c [] (listed dir) ≤ reserved self.old c }
+        ensures kept { KeepsMore self.new self.old (λ c. claimed_in c [] (listed dir)) }
+        ensures state { self.new.state ≡ self.old.state }
+    {
+        match dir {
+            Some(dir) => self.unpromise(dir),
             None => (),
         }
     }
@@ -195,6 +236,7 @@ impl Stable {
     fn promise(&mut self, dir: Num) -> Result<(), AllocError>
         requires { IsDirectory self.old.reserves dir }
         ensures kept { OnOk result (KeepsMore self.old self.new (room_in dir)) }
+        ensures stays { OnOk result (Stays self.old self.new) }
         ensures state { self.new.state ≡ self.old.state }
         ensures err { OnErr result (self.new ≡ self.old) }
     {

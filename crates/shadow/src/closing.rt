@@ -4,28 +4,27 @@ ghost use Rattle.model.specs.Changes.{openings};
 ghost use Rattle.freeing_laws.specs.Pipes.{is_of};
 ghost use Rattle.std.specs.List.{flat_map};
 ghost use Rattle.std.specs.Map.{keys_of};
-ghost use Rattle.model.specs.FiniteMap.{entries, get};
+ghost use Rattle.model.specs.FiniteMap.{entries, get, values};
 ghost use Rattle.freeing_laws.specs.Counts.{free_inode};
 ghost use Rattle.freeing_laws.specs.Sweep.{all_closed, closed, free_inodes};
 ghost use Rattle.shadow.specs.Laid.{Frees, Holds, given_by, given_in};
 ghost use Rattle.store.specs.Shown.{inodes};
 ghost use Rattle.shadow.specs.Stored.{Processes, state_of};
 
-use crate::opening::Openings;
-use crate::slots::Slots;
-use fdtable::SlotPatch;
+use fdtable::{FdTable, SlotPatch};
 use heap::Heap;
-use ids::{DESCRIPTORS, Fd, Num};
+use ids::{Num, Pid};
+use notes::Openings;
 use objects::Description;
 use store::Store;
 
 /// Closes what slots gave before and no slot gives now. It takes no memory.
-pub(crate) fn close_former(store: &mut Store, former: &Slots)
+pub(crate) fn close_former(store: &mut Store, former: &[(Pid, SlotPatch)])
     requires { (ps : Processes) × Holds ps store.old }
     ensures { (ps : Processes) → Holds ps store.old
         → Frees (all_closed (given_in former.now)) ps store.old store.new }
 {
-    for (_pid, patch) in &former.each {
+    for (_pid, patch) in former {
         close_given(store, patch);
     }
 }
@@ -37,14 +36,29 @@ pub(crate) fn close_given(store: &mut Store, former: &SlotPatch)
         → Frees (all_closed (flat_map (λ g. given_by g.1) (entries former.now))) ps store.old
         store.new }
 {
-    // For the proof: only descriptors below the limit are noted.
-    former.noted_are_low();
-    for number in 0..DESCRIPTORS as u32 {
-        match former.get(Fd(number)) {
+    let mut from = 0;
+    while let Some(fd) = former.noted_from(from) {
+        match former.get(fd) {
             Some(Some(description)) => close(store, description),
             Some(None) => (),
             None => (),
         }
+        from = fd.0 + 1;
+    }
+}
+
+/// Closes what a table had open. It takes no memory.
+pub(crate) fn close_all(store: &mut Store, former: &FdTable)
+    requires { (ps : Processes) × Holds ps store.old }
+    ensures { (ps : Processes) → Holds ps store.old
+        → Frees (all_closed (values former.now)) ps store.old store.new }
+{
+    let mut from = 0;
+    while let Some(fd) = former.open_from(from) {
+        if let Some(description) = former.get(fd) {
+            close(store, description);
+        }
+        from = fd.0 + 1;
     }
 }
 

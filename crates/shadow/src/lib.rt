@@ -4,21 +4,15 @@
 ghost use Rattle.shadow.specs.Effects.{CallsCanBeCommitted};
 
 mod applying;
-mod change;
 mod claiming;
 mod closing;
-mod inodes;
+mod counting;
 mod laying;
-mod log;
-mod new_object;
-mod new_rights;
-mod opening;
-mod overlay;
-mod patches;
 mod processes;
+mod ranging;
 mod reslotting;
 mod shadow;
-mod slots;
+mod slotting;
 mod stable;
 mod view;
 

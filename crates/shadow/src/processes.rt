@@ -1,17 +1,15 @@
 // Processes that are made, and that end.
-ghost use Rattle.std.specs.Prelude.{◌≡◌, ◌≢◌, ◌<◌, ℕ, suc, [], List, None, Some, IfOk, OnErr, OnOk};
-ghost use Rattle.ids.specs.declared.limits.TheConstants.{DESCRIPTORS, MAX_PROCESSES};
-ghost use Rattle.model.specs.FiniteMap.{get};
+ghost use Rattle.std.specs.Prelude.{◌≡◌, ◌<◌, ℕ, suc, [], List, IfOk, OnErr, OnOk};
+ghost use Rattle.ids.specs.declared.limits.TheConstants.{MAX_PROCESSES};
 ghost use Rattle.model.specs.Changes.{End_process, New_process, applied, tidy};
-ghost use Rattle.model.specs.State.{mapped};
 ghost use Rattle.call_laws.specs.Fits.{Fits};
 ghost use Rattle.shadow.specs.Claims.{KeepsSame};
 
-use crate::closing::close_given;
-use crate::reslotting::lay_table;
+use crate::closing::close_all;
+use crate::reslotting::{lay_table, let_all_go};
 use crate::stable::{Process, Stable};
-use fdtable::{FdTable, SlotPatch};
-use ids::{DESCRIPTORS, Fd, Pid};
+use fdtable::{FdTable, SlotPatch, SlotRoom};
+use ids::Pid;
 use std::alloc::AllocError;
 
 impl Stable {
@@ -28,12 +26,22 @@ impl Stable {
         ensures kept { KeepsSame self.old self.new }
         ensures err { OnErr result (self.new.state ≡ self.old.state) }
     {
-        let opened = all_opened(&self.table(parent));
+        let heap = self.heap();
+        let none = FdTable::new(heap);
+        let parents = self.table(parent, &none);
+        let mut opened = SlotPatch::opening(heap, parents)?;
+        let room = SlotRoom::like(heap, parents)?;
         let priority = self.priority_of(parent);
         let child = Pid(self.made() as u32 + 1);
-        let table = FdTable::new();
+        let table = FdTable::new(heap);
         self.processes.push(Process { table, priority })?;
-        let _none = lay_table(&mut self.store, &mut self.processes, child, &opened);
+        lay_table(
+            &mut self.store,
+            &mut self.processes,
+            child,
+            &mut opened,
+            room,
+        );
         Ok(child)
     }
 
@@ -45,38 +53,8 @@ impl Stable {
             → self.new.state ≡ tidy (applied [] (End_process pid pipes) self.old.state) }
         ensures kept { KeepsSame self.old self.new }
     {
-        let former = lay_table(&mut self.store, &mut self.processes, pid, &all_closed());
-        self.processes.remove(pid);
-        close_given(&mut self.store, &former);
+        let table = self.processes.remove(pid);
+        let_all_go(&mut self.store, &table);
+        close_all(&mut self.store, &table);
     }
-}
-
-// The changes that open these descriptors.
-fn all_opened(table: &FdTable) -> SlotPatch
-    ensures given { (f : ℕ) → f < DESCRIPTORS → get result f ≡ mapped Some (get table.now f) }
-    ensures low { (f : ℕ) → get result f ≢ None → f < DESCRIPTORS }
-{
-    let mut patch = SlotPatch::new();
-    for number in 0..DESCRIPTORS as u32 {
-        if let Some(description) = table.get(Fd(number)) {
-            patch.note(Fd(number), Some(description));
-        }
-    }
-    // For the proof: only descriptors below the limit are noted.
-    patch.noted_are_low();
-    patch
-}
-
-// The changes that close every descriptor.
-fn all_closed() -> SlotPatch
-    ensures given { (f : ℕ) → f < DESCRIPTORS → get result f ≡ Some None }
-    ensures low { (f : ℕ) → get result f ≢ None → f < DESCRIPTORS }
-{
-    let mut patch = SlotPatch::new();
-    for number in 0..DESCRIPTORS as u32 {
-        patch.note(Fd(number), None);
-    }
-    // For the proof: only descriptors below the limit are noted.
-    patch.noted_are_low();
-    patch
 }

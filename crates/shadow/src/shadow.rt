@@ -9,18 +9,17 @@ ghost use Rattle.model.specs.Changes.{tidy};
 ghost use Rattle.freeing_laws.specs.Sweep.{AllFit};
 ghost use Rattle.shadow.specs.Claims.{AreUnused, Covers, HaveParents, KeepsMore, KeepsSame, claimed};
 ghost use Rattle.shadow.specs.Claims.{claimed_by};
-ghost use Rattle.shadow.specs.Log.{effect};
-ghost use Rattle.shadow.specs.Steps.{CanEdit};
+ghost use Rattle.notes.specs.Log.{effect};
+ghost use Rattle.notes.specs.Steps.{CanEdit};
 
-use crate::claiming::parent_of;
+use crate::claiming::parents_of;
 use crate::closing::{close_former, close_new, free_all};
 use crate::laying::{lay_inodes_with_rights, lay_openings};
-use crate::log::Log;
-use crate::patches::Patches;
 use crate::reslotting::lay_slots;
 use crate::stable::Stable;
 use heap::Heap;
 use ids::{Edit, Num, Nums};
+use notes::{Log, Patches};
 use std::alloc::AllocError;
 use std::marker::Model;
 use std::snapshot::Snapshot;
@@ -44,7 +43,7 @@ impl Model for Shadow {
     ghost use Rattle.std.specs.Prelude.{List};
     ghost use Rattle.model.specs.Effects.{Effect};
     ghost use Rattle.shadow.specs.Agrees.{Agrees};
-    ghost use Rattle.shadow.specs.Log.{effects_in};
+    ghost use Rattle.notes.specs.Log.{effects_in};
 
     ghost Value = { List Effect };
 
@@ -81,7 +80,7 @@ impl Shadow {
     {
         let heap = *edits.allocator();
         let logged = Snapshot::of(&edits);
-        let parent = parent_of(edits.as_slice());
+        let parents = parents_of(edits.as_slice());
         let chosen = stable.claim(heap, edits.as_slice())?;
         match self.patches.note(chosen.as_slice(), edits) {
             Ok(()) => {
@@ -89,7 +88,7 @@ impl Shadow {
                 Ok(chosen)
             }
             Err(AllocError) => {
-                stable.release_claims(chosen.as_slice(), parent);
+                stable.release_claims(chosen.as_slice(), parents);
                 drop(chosen);
                 Err(AllocError)
             }
@@ -119,15 +118,16 @@ impl Shadow {
             inodes,
             rights,
             openings,
-            mut slots,
+            slots,
             unnamed_inodes,
         } = patches;
         let heap = stable.heap();
         let store = &mut stable.store;
         lay_inodes_with_rights(store, heap, inodes, &rights);
         lay_openings(store, &openings);
-        lay_slots(store, &mut stable.processes, &mut slots);
-        close_former(store, &slots);
+        let (mut each, rooms) = slots.into_parts();
+        lay_slots(store, &mut stable.processes, each.as_mut_slice(), rooms);
+        close_former(store, each.as_slice());
         close_new(store, &openings);
         free_all(store, unnamed_inodes);
     }

@@ -1,7 +1,7 @@
 // The committed state.
 ghost use Rattle.std.specs.Prelude.{ℕ, ◌≡◌, ◌≢◌, ◌≤◌, ◌<◌, ◌+◌, ◌∷◌, [], List, None, Some, true, IfOk, OnErr};
 ghost use Rattle.std.specs.Prelude.{OnOk, IfSome, option_copied, length, map, if◌then◌else◌};
-ghost use Rattle.ids.specs.declared.limits.TheConstants.{LARGEST_FILE};
+ghost use Rattle.ids.specs.declared.limits.TheConstants.{LARGEST_FILE, TARGET_LIMIT};
 ghost use Rattle.std.specs.List.{AllByRecursion};
 ghost use Rattle.model.specs.FiniteMap.{empty, get};
 ghost use Rattle.model.specs.State.{file_of, kind_of, links, mapped, names_of, File as A_file};
@@ -16,16 +16,17 @@ ghost use Rattle.store.specs.Shown.{file_inode, pipe_inode};
 ghost use Rattle.shadow.specs.Claims.{AreUnused, Claim, Covers, HaveParents, IsDirectory, KeepsMore};
 ghost use Rattle.shadow.specs.Claims.{KeepsNothing, KeepsSame, claimed_by, number_as, number_of};
 ghost use Rattle.shadow.specs.Claims.{reserved, room_in};
-ghost use Rattle.shadow.specs.Log.{effect};
+ghost use Rattle.notes.specs.Log.{effect};
 ghost use Rattle.shadow.specs.Looks.{DirectoriesAreKept, birth_of};
-ghost use Rattle.shadow.specs.Steps.{CanEdit};
+ghost use Rattle.notes.specs.Steps.{CanEdit};
+ghost use Rattle.shadow.specs.Laid.{table_in};
 ghost use Rattle.shadow.specs.Stored.{numbered, with_one_more, with_process};
 
 use crate::shadow::Shadow;
 use dirlist::Dir;
 use fdtable::FdTable;
 use heap::Heap;
-use ids::{Edit, Fd, Kind, Name, Num, Nums, Pid, Priority, Rights};
+use ids::{Bounds, Edit, Fd, Kind, Name, Num, Nums, Pid, Priority, Rights};
 use objects::{Description, FileData};
 use std::alloc::AllocError;
 use std::marker::Model;
@@ -48,6 +49,16 @@ impl Drop for Process {
     }
 }
 
+impl Process {
+    // Its open descriptors.
+    fn into_table(self) -> FdTable
+        ensures { result ≡ self.table }
+    {
+        let Process { table, priority: _ } = self;
+        table
+    }
+}
+
 impl Model for Process {
     ghost use Rattle.model.specs.State.{Process};
 
@@ -59,19 +70,16 @@ impl Model for Process {
     } };
 }
 
-/// The processes, and the most bytes of a file, which never changes.
+/// The processes, and the bounds, which never change.
 pub(crate) struct Processes {
     /// Each place has the process of the next number; one that has ended leaves its place empty.
     pub(crate) list: Vec<Option<Process>, Heap>,
-    largest: u32,
+    bounds: Bounds,
 }
 
 impl Drop for Processes {
     fn drop(self) {
-        let Processes {
-            list: _,
-            largest: _,
-        } = self;
+        let Processes { list: _, bounds: _ } = self;
     }
 }
 
@@ -82,9 +90,9 @@ impl Model for Processes {
 
     ghost Value = { Processes };
 
-    ghost view = { λ p. record { list = p.list.items; largest = p.largest } };
+    ghost view = { λ p. record { list = p.list.items; bounds = p.bounds } };
 
-    ghost invariant = { λ p. p.largest ≤ LARGEST_FILE };
+    ghost invariant = { λ p. p.bounds.file_bytes ≤ LARGEST_FILE };
 }
 
 /// The committed state: the objects, the processes with their descriptors and priorities, and what
@@ -125,7 +133,7 @@ fn first_processes(
     let mut processes = Vec::with_capacity(heap, priorities.len())?;
     for priority in priorities {
         processes.push(Some(Process {
-            table: FdTable::new(),
+            table: FdTable::new(heap),
             priority: *priority,
         }))?;
     }
@@ -133,17 +141,17 @@ fn first_processes(
 }
 
 impl Processes {
-    // A process without open descriptors for each of these priorities, and files of so many bytes.
-    fn first(heap: Heap, priorities: &[Priority], largest: u32) -> Result<Processes, AllocError>
-        requires { largest ≤ LARGEST_FILE }
+    // A process without open descriptors for each of these priorities, within these bounds.
+    fn first(heap: Heap, priorities: &[Priority], bounds: Bounds) -> Result<Processes, AllocError>
+        requires { bounds.file_bytes ≤ LARGEST_FILE }
         ensures { IfOk result (λ ps. ps ≡ record {
           list = map (λ p. Some (record { table = empty; priority = p })) priorities.now;
-          largest = largest;
+          bounds = bounds;
         }) }
     {
         Ok(Processes {
             list: first_processes(heap, priorities)?,
-            largest,
+            bounds,
         })
     }
 
@@ -154,12 +162,12 @@ impl Processes {
         self.list.len()
     }
 
-    // The most bytes of a file.
-    fn largest(&self) -> u32
-        ensures value { result ≡ self.now.largest }
-        ensures small { result ≤ LARGEST_FILE }
+    // The bounds.
+    fn bounds(&self) -> Bounds
+        ensures value { result ≡ self.now.bounds }
+        ensures small { result.file_bytes ≤ LARGEST_FILE }
     {
-        self.largest
+        self.bounds
     }
 
     // The process of a number, if it is there.
@@ -183,36 +191,40 @@ impl Processes {
         Ok(())
     }
 
-    /// A process is gone. It takes no memory.
-    pub(crate) fn remove(&mut self, pid: Pid)
+    /// A process is gone; its open descriptors are answered. It takes no memory.
+    pub(crate) fn remove(&mut self, pid: Pid) -> FdTable
         requires { get (numbered self.old) pid ≢ None }
-        ensures { self.new ≡ with_process pid None self.old }
+        ensures table { result ≡ table_in (get (numbered self.old) pid) }
+        ensures gone { self.new ≡ with_process pid None self.old }
     {
-        self.list[pid.0 as usize - 1] = None;
+        match self.list[pid.0 as usize - 1].take() {
+            Some(process) => process.into_table(),
+            None => unreachable!(),
+        }
     }
 }
 
 impl Stable {
-    /// The empty root, a process for each of these priorities, and files of at most so many bytes.
-    /// Refused memory gives nothing.
-    pub fn new(heap: Heap, priorities: &[Priority], largest: u32) -> Result<Stable, AllocError>
-        requires { largest ≤ LARGEST_FILE }
+    /// The empty root, and a process for each of these priorities, within these bounds. Refused memory
+    /// gives nothing.
+    pub fn new(heap: Heap, priorities: &[Priority], bounds: Bounds) -> Result<Stable, AllocError>
+        requires { bounds.file_bytes ≤ LARGEST_FILE }
         ensures state { IfOk result (λ s. s.state
-            ≡ start 0 (record { priorities = priorities.now; largest = largest })) }
+            ≡ start 0 (record { priorities = priorities.now; bounds = bounds })) }
         ensures kept { IfOk result KeepsNothing }
     {
         Ok(Stable {
-            processes: Processes::first(heap, priorities, largest)?,
+            processes: Processes::first(heap, priorities, bounds)?,
             store: Store::new(heap)?,
         })
     }
 
-    /// The most bytes of a file.
-    pub fn largest(&self) -> u32
-        ensures value { result ≡ self.now.state.largest }
-        ensures small { result ≤ LARGEST_FILE }
+    /// What calls keep within.
+    pub fn bounds(&self) -> Bounds
+        ensures value { result ≡ self.now.state.bounds }
+        ensures small { result.file_bytes ≤ LARGEST_FILE }
     {
-        self.processes.largest()
+        self.processes.bounds()
     }
 
     /// How many processes were ever made.
@@ -220,6 +232,11 @@ impl Stable {
         ensures { result ≡ self.now.state.made }
     {
         self.processes.count()
+    }
+
+    /// How many objects there are, with those that are to come. Contracts do not know it.
+    pub fn objects(&self) -> usize {
+        self.store.in_use()
     }
 
     /// Whether there is such a process.
@@ -263,13 +280,14 @@ impl Stable {
         Ok((made as u32, self.level_of(pid)))
     }
 
-    /// A copy of a process's open descriptors; none where there is no such process.
-    pub(crate) fn table(&self, pid: Pid) -> FdTable
-        ensures { result ≡ (process_of self.now.state pid).table }
+    /// A process's open descriptors; where there is no such process, this table of none.
+    pub(crate) fn table<'a>(&'a self, pid: Pid, none: &'a FdTable) -> &'a FdTable
+        requires { none.now ≡ empty }
+        ensures { result.now ≡ (process_of self.now.state pid).table }
     {
         match self.processes.process(pid) {
-            Some(process) => process.table.copy(),
-            None => FdTable::new(),
+            Some(process) => &process.table,
+            None => none,
         }
     }
 
@@ -328,7 +346,8 @@ impl Stable {
 
     /// The target of a symbolic link; no bytes where the number is of none.
     pub(crate) fn target(&self, link: Num) -> &[u8]
-        ensures { result.now ≡ target_of self.now.state link }
+        ensures value { result.now ≡ target_of self.now.state link }
+        ensures small { length result.now ≤ TARGET_LIMIT }
     {
         self.store.target(link)
     }

@@ -1,23 +1,23 @@
 // What a process sees.
-ghost use Rattle.std.specs.Prelude.{◌≡◌, ◌≤◌, IfOk, IfSome, drop};
+ghost use Rattle.std.specs.Prelude.{◌≡◌, ◌+◌, ◌≤◌, IfOk, IfSome, drop};
+ghost use Rattle.ids.specs.declared.limits.TheConstants.{LARGEST_FILE};
 ghost use Rattle.std.specs.Prelude.{if◌then◌else◌, length, option_copied, option_map, take};
-ghost use Rattle.model.specs.FiniteMap.{get};
+ghost use Rattle.ids.specs.declared.limits.TheConstants.{TARGET_LIMIT};
+ghost use Rattle.model.specs.FiniteMap.{entries, get};
 ghost use Rattle.model.specs.State.{file_of, kind_of, names_of, pipe_of, target_of};
 ghost use Rattle.model.specs.Changes.{holders, process_of};
+ghost use Rattle.model.specs.Holes.{alike_from};
 ghost use Rattle.model.specs.Calls.{slot_of};
 ghost use Rattle.model.specs.Effects.{all_done};
+ghost use Rattle.fdtable.specs.Lowest.{IsLowest};
 ghost use Rattle.freeing_laws.specs.Pipes.{ArePair, holders_if, reads, writes};
 ghost use Rattle.freeing_laws.specs.Sweep.{AllFit};
 ghost use Rattle.objects.specs.declared.run.TheConstants.{LARGEST_RUN};
 ghost use Rattle.shadow.specs.Claims.{Covers};
 ghost use Rattle.shadow.specs.Looks.{DirectoriesAreKept, IsNet, KeepsRest, changes_of};
-ghost use Rattle.shadow.specs.Patches.{net_of};
+ghost use Rattle.notes.specs.Patches.{net_of};
 
-use crate::change::InodeChange;
-use crate::overlay::{
-    bytes_over, count_over, front_of, front_over, given_over, is_empty_over, kind_over, len_over,
-    names_over, new_ends, pipe_len_of, pipe_len_over, small, target_over,
-};
+use crate::counting::{count_over, small, turnover};
 use crate::shadow::Shadow;
 use crate::stable::Stable;
 use dirlist::Dir;
@@ -26,6 +26,10 @@ use freeing_laws::{left_is_tidy, pipes_keep_their_ends};
 use heap::Heap;
 use ids::{Bytes, DESCRIPTORS, Fd, Kind, Name, NameList, Num, PIPE_CAPACITY, Pid, Rights, Slot};
 use look::Look;
+use notes::{
+    InodeChange, bytes_over, front_of, front_over, given_over, is_empty_over, kind_over, len_over,
+    names_over, new_ends, passed_over, pipe_len_of, pipe_len_over, target_over,
+};
 use objects::{Description, FileData};
 use std::alloc::AllocError;
 use std::marker::Model;
@@ -67,7 +71,7 @@ fn change<'a>(shadow: Option<&'a Shadow>, num: Num) -> Option<&'a InodeChange>
     }
 }
 
-// For the proof: no change changes the root, the largest file, how many processes were made, or a
+// For the proof: no change changes the root, the bounds, how many processes were made, or a
 // priority.
 fn keeps_rest(shadow: Option<&Shadow>)
     ensures { KeepsRest (changes_of (option_map (λ s. s.now) shadow.entry)) }
@@ -181,6 +185,27 @@ impl<'a> View<'a> {
         }
     }
 
+    // How many blocks of a file from one on, so many at most, are holes, or are none.
+    fn passed(
+        &self,
+        heap: Heap,
+        file: Num,
+        holes: bool,
+        blocks: (usize, usize),
+    ) -> Result<usize, AllocError>
+        requires { blocks.0 + blocks.1 ≤ LARGEST_FILE }
+        ensures value { IfOk result (λ passed. passed
+            ≡ alike_from holes (file_of self.now.state file) blocks.0 blocks.1) }
+        ensures small { IfOk result (λ passed. passed ≤ blocks.1) }
+    {
+        let none = FileData::new(heap);
+        let stored = self.stable.file(file, &none);
+        match change(self.shadow, file) {
+            Some(change) => passed_over(heap, &change.contents, stored, holes, blocks),
+            None => Ok(stored.pass(holes, blocks.0, blocks.1)),
+        }
+    }
+
     // What never changes of a description, with its inode's kind.
     fn described(&self, num: Num) -> Slot
         ensures { result ≡ slot_of self.now.state num (get self.now.state.descriptions num) }
@@ -216,14 +241,28 @@ impl<'a> View<'a> {
         }
     }
 
-    // A copy of a process's open descriptors.
-    fn own_table(&self, pid: Pid) -> FdTable
-        ensures { result ≡ (process_of self.now.state pid).table }
+    // A process's open descriptors, rising. Refused memory gives nothing.
+    fn own_entries(&self, heap: Heap, pid: Pid) -> Result<Vec<(Fd, Num), Heap>, AllocError>
+        ensures { IfOk result (λ list. list.items
+            ≡ entries (process_of self.now.state pid).table) }
     {
-        let stored = self.stable.table(pid);
+        let none = FdTable::new(heap);
+        let stored = self.stable.table(pid, &none);
         match self.shadow {
-            Some(shadow) => shadow.patches.slots.over(pid, stored),
-            None => stored,
+            Some(shadow) => shadow.patches.slots.entries_over(heap, pid, stored),
+            None => stored.entries(heap),
+        }
+    }
+
+    // The lowest free descriptor of a process below a limit, from this one on.
+    fn lowest(&self, pid: Pid, first: Fd, limit: u32) -> Option<Fd>
+        ensures { IsLowest (process_of self.now.state pid).table first limit result }
+    {
+        let none = FdTable::new(self.stable.heap());
+        let stored = self.stable.table(pid, &none);
+        match self.shadow {
+            Some(shadow) => shadow.patches.slots.lowest_over(pid, stored, first, limit),
+            None => stored.lowest_from(first, limit),
         }
     }
 
@@ -234,7 +273,7 @@ impl<'a> View<'a> {
         let stored = self.stable.holders(description);
         match self.shadow {
             Some(shadow) => {
-                let (added, taken) = shadow.patches.slots.turnover(self.stable, description);
+                let (added, taken) = turnover(&shadow.patches.slots, self.stable, description);
                 count_over(stored, added, taken)
             }
             None => count_over(stored, 0, 0),
@@ -265,7 +304,8 @@ impl<'a> View<'a> {
 
     // The target of a symbolic link, empty for what is none.
     fn link_target(&self, link: Num) -> &[u8]
-        ensures { result.now ≡ target_of self.now.state link }
+        ensures value { result.now ≡ target_of self.now.state link }
+        ensures small { length result.now ≤ TARGET_LIMIT }
     {
         let stored = self.stable.target(link);
         match change(self.shadow, link) {
@@ -342,9 +382,21 @@ impl<'a> Look for View<'a> {
     }
 
     fn largest(&self) -> u32 {
-        // For the proof: changes leave the largest size of a file.
+        // For the proof: changes leave the bounds.
         keeps_rest(self.shadow);
-        self.stable.largest()
+        self.stable.bounds().file_bytes
+    }
+
+    fn open_limit(&self) -> u32 {
+        // For the proof: changes leave the bounds.
+        keeps_rest(self.shadow);
+        self.stable.bounds().descriptors.min(DESCRIPTORS as u32)
+    }
+
+    fn path_limit(&self) -> u32 {
+        // For the proof: changes leave the bounds.
+        keeps_rest(self.shadow);
+        self.stable.bounds().path_bytes
     }
 
     fn find(&self, dir: Num, name: &Name) -> Option<(Num, Option<Kind>)> {
@@ -388,6 +440,18 @@ impl<'a> Look for View<'a> {
         self.bytes(heap, file, offset as usize, count as usize)
     }
 
+    fn pass(
+        &self,
+        heap: Heap,
+        file: Num,
+        holes: bool,
+        first: u32,
+        count: u32,
+    ) -> Result<u32, AllocError> {
+        let passed = self.passed(heap, file, holes, (first as usize, count as usize))?;
+        Ok(passed as u32)
+    }
+
     fn links(&self, file: Num) -> Result<u32, AllocError> {
         let stored = self.stable.links(file);
         match change(self.shadow, file) {
@@ -428,6 +492,10 @@ impl<'a> Look for View<'a> {
         Bytes::copy(heap, self.link_target(link))
     }
 
+    fn target_len(&self, link: Num) -> u32 {
+        self.link_target(link).len() as u32
+    }
+
     fn rights(&self, inode: Num) -> Rights {
         match self.rights_set(inode) {
             Some(rights) => rights,
@@ -442,20 +510,12 @@ impl<'a> Look for View<'a> {
         }
     }
 
-    // It looks at one place after the other, from the first to the answer, and at no other: 64 at
-    // most. A set of bits beside the places would tell it in one step, but each table and each patch
-    // would have to keep one.
     fn free_from(&self, pid: Pid, first: Fd) -> Option<Fd> {
-        for number in first.0..DESCRIPTORS as u32 {
-            if self.given(pid, Fd(number)).is_none() {
-                return Some(Fd(number));
-            }
-        }
-        None
+        self.lowest(pid, first, self.open_limit())
     }
 
     fn table(&self, heap: Heap, pid: Pid) -> Result<Vec<(Fd, Slot), Heap>, AllocError> {
-        let entries = self.own_table(pid).entries(heap)?;
+        let entries = self.own_entries(heap, pid)?;
         let mut slots = Vec::with_capacity(heap, entries.len())?;
         for (fd, description) in &entries {
             slots.push((*fd, self.described(*description)))?;

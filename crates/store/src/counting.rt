@@ -1,4 +1,5 @@
-//! How many descriptions are open on a file, and how many descriptors name a description.
+//! How many numbers are in use, how many descriptions are open on a file, and how many descriptors name a
+//! description.
 ghost use Rattle.std.specs.Prelude.{◌≡◌, ◌<◌, ◌+◌, ◌^◌};
 ghost use Rattle.store.specs.Places.{altered, holders_at, less_holders, less_openings};
 ghost use Rattle.store.specs.Places.{more_holders, more_openings, openings_at, with_file};
@@ -9,6 +10,12 @@ use crate::{Store, contents};
 use ids::Num;
 
 impl Store {
+    /// How many numbers are in use: of inodes and of descriptions that are shown, of those to come, and of
+    /// directories in which room is still promised. Contracts do not know it.
+    pub fn in_use(&self) -> usize {
+        self.headers.len()
+    }
+
     /// How many descriptions are counted as open on a file.
     pub fn openings(&self, num: Num) -> u128
         ensures { result ≡ openings_at self.now num }

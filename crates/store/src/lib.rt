@@ -3,7 +3,7 @@
 
 ghost use Rattle.std.specs.Prelude.{◌≡◌, ◌≢◌, ◌<◌, ◌≤◌, ◌+◌, ◌++◌, ◌^◌, drop, length, Some, None};
 ghost use Rattle.std.specs.Prelude.{IfOk, OnOk, OnErr};
-ghost use Rattle.ids.specs.declared.limits.TheConstants.{LARGEST_FILE};
+ghost use Rattle.ids.specs.declared.limits.TheConstants.{LARGEST_FILE, TARGET_LIMIT};
 ghost use Rattle.model.specs.Changes.{written};
 ghost use Rattle.std.specs.Prelude.{option_and_then, option_copied, option_map, IsSome};
 ghost use Rattle.model.specs.FiniteMap as map;
@@ -377,7 +377,8 @@ impl Store {
 
     /// The target of the symbolic link of a number, where one is shown; else no bytes.
     pub fn target(&self, num: Num) -> &[u8]
-        ensures { result.now ≡ target_of_inode (map.get (inodes self.now) num) }
+        ensures value { result.now ≡ target_of_inode (map.get (inodes self.now) num) }
+        ensures small { length result.now ≤ TARGET_LIMIT }
     {
         match self.get(num) {
             Some(Object::Fixed(fixed)) => fixed.target(),

@@ -43,7 +43,7 @@ grown_is priorities limits old new more k g = record {
   kept = g.sound;
   same_priorities = g.same_priorities ∙ k.same_priorities;
   same_limit = g.same_limit ∙ k.same_limit;
-  same_largest = g.same_largest ∙ k.same_largest;
+  same_bounds = g.same_bounds ∙ k.same_bounds;
 }
 
 made_alike : (priorities : Option (List ℕ)) (limits : Limits) (old new : Option Shown) → IsMade priorities limits old → StaysAlike old new → IsMade priorities limits new

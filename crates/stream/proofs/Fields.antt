@@ -18,13 +18,14 @@ use Rattle.stream.specs.declared.doing.StepRefusal.TheVariants as refusal
 use Rattle.stream.specs.declared.state.Setting.{Setting}
 use Rattle.stream.specs.declared.state.Stream.{Stream}
 use Rattle.stream.proofs.Forgotten.{grown_same, grown_settled}
+use Rattle.ids.specs.Bounds.{bounds_of}
 
 pub same_line : {K : Type 0} (stream : Stream K) → IsSameLine stream stream
 same_line stream = record { line = refl; number = refl; good = refl }
 
 -- the follower of a fresh history follows it
 fresh_follows : (setting : Setting) (priorities : List ℕ) (follower : Option Follower) (log : Log)
-    → log ≡ record { entries = []; priorities = priorities; limit = setting.limits.entries; forgotten = []; largest = setting.limits.file_bytes }
+    → log ≡ record { entries = []; priorities = priorities; limit = setting.limits.entries; forgotten = []; bounds = bounds_of setting.limits }
     → IsFollowerOf setting priorities follower → (is_some follower ≡ setting.check) × Follows follower log
 fresh_follows setting priorities None log e is = (sym is, tt)
 fresh_follows setting priorities (Some follower) log e is =
@@ -61,7 +62,7 @@ heard_begin {K} shown setting priorities old new none gives begun =
       kept = begun.kept;
       same_priorities = ap (λ (l : Log). l.priorities) begun.log;
       same_limit = ap (λ (l : Log). l.limit) begun.log;
-      same_largest = ap (λ (l : Log). l.largest) begun.log;
+      same_bounds = ap (λ (l : Log). l.bounds) begun.log;
     } in
     let comes : Comes old.number old.line.items setting.limits None (Some kernel) heard.Nothing = record {
       priorities = priorities;

@@ -104,7 +104,7 @@ grown_none kernel sound = record {
   sound = sound;
   same_priorities = refl;
   same_limit = refl;
-  same_largest = refl;
+  same_bounds = refl;
   entries = sym (append-nil kernel.log.entries);
 }
 
@@ -114,7 +114,7 @@ grown_same old new sound e = record {
   sound = sound;
   same_priorities = ap (λ (k : Shown). k.log.priorities) e;
   same_limit = ap (λ (k : Shown). k.log.limit) e;
-  same_largest = ap (λ (k : Shown). k.log.largest) e;
+  same_bounds = ap (λ (k : Shown). k.log.bounds) e;
   entries = ap (λ (k : Shown). k.log.entries) e ∙ sym (append-nil old.log.entries);
 }
 
@@ -124,7 +124,7 @@ grown_forgetting old new sound e = record {
   sound = sound;
   same_priorities = ap (λ (k : Shown). k.log.priorities) e;
   same_limit = ap (λ (k : Shown). k.log.limit) e;
-  same_largest = ap (λ (k : Shown). k.log.largest) e;
+  same_bounds = ap (λ (k : Shown). k.log.bounds) e;
   entries = ap (λ (k : Shown). k.log.entries) e ∙ sym (append-nil old.log.entries);
 }
 
@@ -184,7 +184,7 @@ grown-then a b c more g h = record {
   sound = h.sound;
   same_priorities = h.same_priorities ∙ g.same_priorities;
   same_limit = h.same_limit ∙ g.same_limit;
-  same_largest = h.same_largest ∙ g.same_largest;
+  same_bounds = h.same_bounds ∙ g.same_bounds;
   entries = h.entries ∙ ap (λ (es : List Entry). es ++ more) (g.entries ∙ append-nil a.log.entries);
 }
 
@@ -220,7 +220,7 @@ done_by old new pid op before sound took =
         sound = sound;
         same_priorities = ap (λ (l : Log). l.priorities) took.added.is;
         same_limit = ap (λ (l : Log). l.limit) took.added.is;
-        same_largest = ap (λ (l : Log). l.largest) took.added.is;
+        same_bounds = ap (λ (l : Log). l.bounds) took.added.is;
         entries = entries;
       };
       here = omega arith;

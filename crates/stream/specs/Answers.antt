@@ -11,6 +11,7 @@ use Rattle.script.specs.declared.faults.ScriptFault.{ScriptFault}
 use Rattle.script.specs.declared.faults.ScriptFault.TheVariants as fault
 use Rattle.transcript.specs.Line.{line_of, transcript}
 use Rattle.stream.specs.Asked.{Stand}
+use Rattle.ids.specs.Bounds.{bounds_of}
 
 -- the text of a fault, as it is reported of a script
 abbrev pub fault_text : ScriptFault → List ℕ
@@ -62,7 +63,7 @@ pub record IsKernelOf (priorities : List ℕ) (limits : Limits) (kernel : Shown)
   pub kept : Kept kernel
   pub same_priorities : kernel.log.priorities ≡ priorities
   pub same_limit : kernel.log.limit ≡ limits.entries
-  pub same_largest : kernel.log.largest ≡ limits.file_bytes
+  pub same_bounds : kernel.log.bounds ≡ bounds_of limits
 
 -- The kernel is made once there are priorities.
 abbrev pub IsMade : Option (List ℕ) → Limits → Option Shown → Type 0

@@ -31,7 +31,7 @@ pub record HasGrown (old new : Shown) (more : List Entry) : Type 0 where
   pub sound : Kept new
   pub same_priorities : new.log.priorities ≡ old.log.priorities
   pub same_limit : new.log.limit ≡ old.log.limit
-  pub same_largest : new.log.largest ≡ old.log.largest
+  pub same_bounds : new.log.bounds ≡ old.log.bounds
   pub entries : new.log.entries ≡ old.log.entries ++ more
 
 -- A kernel has done an operation: one entry more, which is kept.

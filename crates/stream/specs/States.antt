@@ -8,6 +8,7 @@ use Rattle.stream.specs.declared.follower.Follower.{Follower}
 use Rattle.stream.specs.declared.heard.Heard.{Heard}
 use Rattle.stream.specs.declared.state.Setting.{Setting}
 use Rattle.stream.specs.declared.state.Stream.{Stream}
+use Rattle.ids.specs.Bounds.{bounds_of}
 
 -- nothing has come yet
 pub record IsFresh {K : Type 0} (stream : Stream K) : Type 0 where
@@ -25,7 +26,7 @@ IsFollowerOf setting priorities (Some follower) =
     × (follower.count ≡ 0)
     × (follower.checker ≡ record {
       root = 0;
-      setup = record { priorities = priorities; largest = setting.limits.file_bytes };
+      setup = record { priorities = priorities; bounds = bounds_of setting.limits };
       entries = [];
     })
 
@@ -48,7 +49,7 @@ pub record HasBegun
     priorities = priorities;
     limit = setting.limits.entries;
     forgotten = [];
-    largest = setting.limits.file_bytes;
+    bounds = bounds_of setting.limits;
   }
   pub follower : IsFollowerOf setting priorities new.follower
   pub same : IsSameLine old new

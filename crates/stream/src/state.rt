@@ -73,8 +73,7 @@ fn follower_if(
     if !setting.check {
         return Ok(None);
     }
-    let largest = setting.limits.file_bytes;
-    let checker = Checker::with_largest_file(heap, Num(0), priorities, largest)?;
+    let checker = Checker::with_bounds(heap, Num(0), priorities, setting.limits.bounds())?;
     Ok(Some(Follower { checker, count: 0 }))
 }
 

@@ -3,6 +3,8 @@ use Rattle.std.specs.Prelude.{ℕ, List, ◌++◌, codes, decimal, if◌then◌e
 use Rattle.std.specs.Fmt.{signed_decimal}
 use Rattle.ids.specs.declared.call.Whence.{Whence}
 use Rattle.ids.specs.declared.call.Whence.TheVariants as whence
+use Rattle.ids.specs.declared.call.Space.{Space}
+use Rattle.ids.specs.declared.call.Space.TheVariants as space
 use Rattle.ids.specs.declared.fixed.Special.{Special}
 use Rattle.ids.specs.declared.fixed.Special.TheVariants as special
 use Rattle.ids.specs.declared.call.Call.{Call}
@@ -17,6 +19,13 @@ abbrev pub whence_text : Whence → List ℕ
 whence_text whence.Set = codes "SET"
 whence_text whence.Cur = codes "CUR"
 whence_text whence.End = codes "END"
+whence_text whence.Data = codes "DATA"
+whence_text whence.Hole = codes "HOLE"
+
+abbrev pub space_text : Space → List ℕ
+space_text space.Grow = codes "GROW"
+space_text space.Keep = codes "KEEP"
+space_text space.Punch = codes "PUNCH"
 
 abbrev pub special_text : Special → List ℕ
 special_text special.Fifo = codes "fifo"
@@ -53,11 +62,15 @@ call_text (call.Lseek fd offset from) =
     ++ whence_text from
 call_text (call.Ftruncate fd size) = numbers_text (codes "ftruncate ") fd size
 call_text (call.Truncate path size) = codes "truncate " ++ text_of path ++ codes " " ++ decimal size
+call_text (call.Fallocate fd offset length space) =
+    codes "fallocate " ++ decimal fd ++ codes " " ++ signed_decimal offset ++ codes " "
+    ++ signed_decimal length ++ codes " " ++ space_text space
 call_text (call.Stat path) = path_text (codes "stat ") path
 call_text (call.Fstat fd) = number_text (codes "fstat ") fd
 call_text (call.Link old new) = paths_text (codes "link ") old new
 call_text (call.Unlink path) = path_text (codes "unlink ") path
 call_text (call.Rename old new) = paths_text (codes "rename ") old new
+call_text (call.Exchange old new) = paths_text (codes "exchange ") old new
 call_text (call.Mkdir path) = path_text (codes "mkdir ") path
 call_text (call.Rmdir path) = path_text (codes "rmdir ") path
 call_text (call.List path) = path_text (codes "list ") path

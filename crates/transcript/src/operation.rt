@@ -3,7 +3,8 @@ ghost use Rattle.std.specs.Prelude.{◌≡◌, ◌++◌, codes, decimal};
 ghost use Rattle.std.specs.Fmt.{signed_decimal};
 ghost use Rattle.transcript.specs.Flags.{begin_flags_text, flags_text};
 ghost use Rattle.transcript.specs.Operation.{bytes_text, call_text, numbers_text, op_text};
-ghost use Rattle.transcript.specs.Operation.{path_text, paths_text, special_text, whence_text};
+ghost use Rattle.transcript.specs.Operation.{path_text, paths_text, space_text, special_text};
+ghost use Rattle.transcript.specs.Operation.{whence_text};
 ghost use Rattle.transcript.specs.Printer.{CanPrint, Prints};
 ghost use Rattle.transcript.specs.Rights.{new_owner_text, octal};
 ghost use Rattle.transcript.specs.Text.{text_of};
@@ -13,7 +14,7 @@ use crate::printer::Printer;
 use crate::rights::{put_new_owner, put_permissions};
 use crate::text::put_text;
 use device::Sink;
-use ids::{BeginFlags, Bytes, Call, NewOwner, Op, OpenFlags, Permissions, Special, Whence};
+use ids::{BeginFlags, Bytes, Call, NewOwner, Op, OpenFlags, Permissions, Space, Special, Whence};
 
 fn whence_text(whence: Whence) -> &'static [u8]
     ensures { result.now ≡ whence_text whence }
@@ -22,6 +23,18 @@ fn whence_text(whence: Whence) -> &'static [u8]
         Whence::Set => b"SET",
         Whence::Cur => b"CUR",
         Whence::End => b"END",
+        Whence::Data => b"DATA",
+        Whence::Hole => b"HOLE",
+    }
+}
+
+fn space_text(space: Space) -> &'static [u8]
+    ensures { result.now ≡ space_text space }
+{
+    match space {
+        Space::Grow => b"GROW",
+        Space::Keep => b"KEEP",
+        Space::Punch => b"PUNCH",
     }
 }
 
@@ -125,6 +138,21 @@ fn put_lseek<S: Sink>(out: &mut Printer<'_, S>, fd: u32, offset: i64, whence: Wh
     out.put(whence_text(whence));
 }
 
+fn put_fallocate<S: Sink>(out: &mut Printer<'_, S>, fd: u32, offset: i64, length: i64, space: Space)
+    requires { CanPrint S.failures out.old }
+    ensures { Prints S.written S.failures out.old out.new
+        (codes "fallocate " ++ decimal fd ++ codes " " ++ signed_decimal offset ++ codes " "
+        ++ signed_decimal length ++ codes " " ++ space_text space) }
+{
+    out.put_number(b"fallocate ", fd);
+    out.put_word(b" ");
+    out.put_signed(offset);
+    out.put_word(b" ");
+    out.put_signed(length);
+    out.put_word(b" ");
+    out.put(space_text(space));
+}
+
 fn put_truncate<S: Sink>(out: &mut Printer<'_, S>, path: &Bytes, size: u32)
     requires { CanPrint S.failures out.old }
     ensures { Prints S.written S.failures out.old out.new
@@ -196,11 +224,15 @@ fn put_call<S: Sink>(out: &mut Printer<'_, S>, call: &Call)
         Call::Lseek(fd, offset, whence) => put_lseek(out, fd.0, *offset, *whence),
         Call::Ftruncate(fd, size) => put_numbers(out, b"ftruncate ", fd.0, *size),
         Call::Truncate(path, size) => put_truncate(out, path, *size),
+        Call::Fallocate(fd, offset, length, space) => {
+            put_fallocate(out, fd.0, *offset, *length, *space)
+        }
         Call::Stat(path) => put_path(out, b"stat ", path),
         Call::Fstat(fd) => out.put_number(b"fstat ", fd.0),
         Call::Link(old, new) => put_paths(out, b"link ", old, new),
         Call::Unlink(path) => put_path(out, b"unlink ", path),
         Call::Rename(old, new) => put_paths(out, b"rename ", old, new),
+        Call::Exchange(old, new) => put_paths(out, b"exchange ", old, new),
         Call::Mkdir(path) => put_path(out, b"mkdir ", path),
         Call::Rmdir(path) => put_path(out, b"rmdir ", path),
         Call::List(path) => put_path(out, b"list ", path),

@@ -9,22 +9,22 @@ use Rattle.history_laws.proofs.Laws.{before_is_an_order, own_entries_grow, own_e
 use Rattle.turnstile.specs.Histories.{Begins, own}
 
 pub before_self : (a : Log) → Begins a a
-before_self a = record { priorities = refl; limit = refl; forgotten = refl; largest = refl; entries = before_is_an_order.itself a.entries }
+before_self a = record { priorities = refl; limit = refl; forgotten = refl; bounds = refl; entries = before_is_an_order.itself a.entries }
 
 pub before_trans : (a b c : Log) → Begins a b → Begins b c → Begins a c
 before_trans a b c p q = record {
   priorities = q.priorities ∙ p.priorities;
   limit = q.limit ∙ p.limit;
   forgotten = q.forgotten ∙ p.forgotten;
-  largest = q.largest ∙ p.largest;
+  bounds = q.bounds ∙ p.bounds;
   entries = before_is_an_order.through a.entries b.entries c.entries p.entries q.entries;
 }
 
 -- of two beginnings of one history one begins the other
 pub before_linear : (a b c : Log) → Begins a c → Begins b c → Begins a b ⊎ Begins b a
 before_linear a b c p q = elim (before_is_an_order.either a.entries b.entries c.entries p.entries q.entries) [
-  | inl t ↦ inl record { priorities = sym q.priorities ∙ p.priorities; limit = sym q.limit ∙ p.limit; forgotten = sym q.forgotten ∙ p.forgotten; largest = sym q.largest ∙ p.largest; entries = t }
-  | inr t ↦ inr record { priorities = sym p.priorities ∙ q.priorities; limit = sym p.limit ∙ q.limit; forgotten = sym p.forgotten ∙ q.forgotten; largest = sym p.largest ∙ q.largest; entries = t }
+  | inl t ↦ inl record { priorities = sym q.priorities ∙ p.priorities; limit = sym q.limit ∙ p.limit; forgotten = sym q.forgotten ∙ p.forgotten; bounds = sym q.bounds ∙ p.bounds; entries = t }
+  | inr t ↦ inr record { priorities = sym p.priorities ∙ q.priorities; limit = sym p.limit ∙ q.limit; forgotten = sym p.forgotten ∙ q.forgotten; bounds = sym p.bounds ∙ q.bounds; entries = t }
 ]
 
 nothing_more : (zs xs ys : List Entry) → (zs ++ xs) ++ ys ≡ zs → zs ++ xs ≡ zs
@@ -43,7 +43,7 @@ module _ (old new : Log) (pid : ℕ) (op : Op) (reply : Reply) (added : Added ol
   last = record { pid = pid; op = op; reply = reply; chosen = added.chosen; doomed = added.doomed }
 
   pub before_added : Begins old new
-  before_added = record { priorities = ap (λ (l : Log). l.priorities) added.is; limit = ap (λ (l : Log). l.limit) added.is; forgotten = ap (λ (l : Log). l.forgotten) added.is; largest = ap (λ (l : Log). l.largest) added.is; entries = (last ∷ [], ap (λ (l : Log). l.entries) added.is) }
+  before_added = record { priorities = ap (λ (l : Log). l.priorities) added.is; limit = ap (λ (l : Log). l.limit) added.is; forgotten = ap (λ (l : Log). l.forgotten) added.is; bounds = ap (λ (l : Log). l.bounds) added.is; entries = (last ∷ [], ap (λ (l : Log). l.entries) added.is) }
 
   pub own_added : own pid new ≡ own pid old ++ last ∷ []
   own_added = ap (own pid) added.is ∙ (own_entries_grow pid old.entries last ∙ ap (λ b. own pid old ++ (if b then last ∷ [] else [])) (eq-eqb pid pid refl))

@@ -16,6 +16,7 @@ use Rattle.model.specs.Entries.{Do, Begin, End, Abort, HistoryFull}
 use Rattle.model.specs.Legal.{Legal}
 use Rattle.model.specs.Moments.{gone, idle, Setup, after, is_alive, start}
 use Rattle.model.specs.Replies.{needed}
+use Rattle.model.specs.Limits.{Bounds}
 
 abbrev pub full : Log → Shown
 full l = record { log = l; state = start 0 (setup_of l) }
@@ -34,27 +35,27 @@ pub serial : (l : Log) (v : Shown) → full l ≡ v → l.entries ≡ [] → sum
 serial l v is none whole = let k = kept l v is none whole in serializable_at 0 _ _ _ _ k.legal k.state
 
 -- a setup by its parts
-abbrev with_parts : List ℕ → ℕ → Setup
-with_parts priorities largest = record { priorities = priorities; largest = largest }
+abbrev with_parts : List ℕ → Bounds → Setup
+with_parts priorities bounds = record { priorities = priorities; bounds = bounds }
 
-pub made : (priorities : List ℕ) (largest : ℕ) → length priorities ≡ (start 0 (with_parts priorities largest)).made
-made priorities largest = sym (first_processes_live 0 (with_parts priorities largest)).made
+pub made : (priorities : List ℕ) (bounds : Bounds) → length priorities ≡ (start 0 (with_parts priorities bounds)).made
+made priorities bounds = sym (first_processes_live 0 (with_parts priorities bounds)).made
 
 -- who lives at the start
 pub nobody : (l : Log) (v : Shown) (pid : ℕ) → full l ≡ v → pid ≡ 0 → false ≡ is_alive v.state pid
 nobody l v pid is zeroth =
     sym ((first_processes_live 0 (setup_of l)).none 0 (inl refl)) ∙ ap (λ (s : Shown). is_alive s.state 0) is ∙ ap (is_alive v.state) (sym zeroth)
 
-living : (priorities : List ℕ) (largest q : ℕ) → 0 < q → nat_le q (length priorities) ≡ is_alive (start 0 (with_parts priorities largest)) q
-living priorities largest zero some = absurd (omega arith)
-living priorities largest (suc i) some = elim (nat_le (suc i) (length priorities)) as (λ b. nat_le (suc i) (length priorities) ≡ b → b ≡ is_alive (start 0 (with_parts priorities largest)) (suc i)) [
-  | true ↦ (λ e. let low : i < length priorities = grind (arith, nat_tests) in sym ((first_processes_live 0 (with_parts priorities largest)).alive i low))
-  | false ↦ (λ e. let above : length priorities < suc i = grind (arith, nat_tests) in sym ((first_processes_live 0 (with_parts priorities largest)).none (suc i) (inr above)))
+living : (priorities : List ℕ) (bounds : Bounds) (q : ℕ) → 0 < q → nat_le q (length priorities) ≡ is_alive (start 0 (with_parts priorities bounds)) q
+living priorities bounds zero some = absurd (omega arith)
+living priorities bounds (suc i) some = elim (nat_le (suc i) (length priorities)) as (λ b. nat_le (suc i) (length priorities) ≡ b → b ≡ is_alive (start 0 (with_parts priorities bounds)) (suc i)) [
+  | true ↦ (λ e. let low : i < length priorities = grind (arith, nat_tests) in sym ((first_processes_live 0 (with_parts priorities bounds)).alive i low))
+  | false ↦ (λ e. let above : length priorities < suc i = grind (arith, nat_tests) in sym ((first_processes_live 0 (with_parts priorities bounds)).none (suc i) (inr above)))
 ] refl
 
 pub lives : (l : Log) (v : Shown) (ps : List ℕ) (q pid : ℕ) → full l ≡ v → ps ≡ l.priorities → q ≡ pid → 0 < q → nat_le q (length ps) ≡ is_alive v.state pid
 lives l v ps q pid is same number some =
-    ap (λ (xs : List ℕ). nat_le q (length xs)) same ∙ living l.priorities l.largest q some ∙ ap (λ (s : Shown). is_alive s.state q) is ∙ ap (is_alive v.state) number
+    ap (λ (xs : List ℕ). nat_le q (length xs)) same ∙ living l.priorities l.bounds q some ∙ ap (λ (s : Shown). is_alive s.state q) is ∙ ap (is_alive v.state) number
 
 needs_a_place : (b : Bool) (op : Op) → 1 ≤ needed (if b then idle else gone) op
 needs_a_place true (Begin flags) = omega arith
@@ -63,18 +64,18 @@ needs_a_place true End = omega arith
 needs_a_place true (Abort no_restart) = omega arith
 needs_a_place false op = omega arith
 
-no_place : (priorities counts : List ℕ) (largest : ℕ) → sum counts ≡ 0 → (pid : ℕ) (op : Op) → has_place (record { entries = []; priorities = priorities; limit = 0; forgotten = counts; largest = largest }) pid op ≡ false
-no_place priorities counts largest none pid op =
-    let some = needs_a_place (is_alive (start 0 (with_parts priorities largest)) pid) op in
-    let all = forgetting_is_legal.all (record { capacity = 0; forgotten = counts }) (after 0 (with_parts priorities largest) []).entries (omega (arith, none)) in
+no_place : (priorities counts : List ℕ) (bounds : Bounds) → sum counts ≡ 0 → (pid : ℕ) (op : Op) → has_place (record { entries = []; priorities = priorities; limit = 0; forgotten = counts; bounds = bounds }) pid op ≡ false
+no_place priorities counts bounds none pid op =
+    let some = needs_a_place (is_alive (start 0 (with_parts priorities bounds)) pid) op in
+    let all = forgetting_is_legal.all (record { capacity = 0; forgotten = counts }) (after 0 (with_parts priorities bounds) []).entries (omega (arith, none)) in
     grind (arith, nat_tests, none, all)
 
 holds_step : (l : Log) → l.entries ≡ [] → l.limit ≡ 0 → sum l.forgotten ≡ 0 → (pid : ℕ) (op : Op) → IsStep (full l) (full l) pid op HistoryFull
 holds_step l none limit whole pid op =
-    let log : l ≡ record { entries = []; priorities = l.priorities; limit = 0; forgotten = l.forgotten; largest = l.largest } = search rules in
+    let log : l ≡ record { entries = []; priorities = l.priorities; limit = 0; forgotten = l.forgotten; bounds = l.bounds } = search rules in
     record {
       entry = refl;
-      full = ((λ e. ap (λ (l : Log). has_place l pid op) log ∙ no_place l.priorities l.forgotten l.largest whole pid op), λ e. refl);
+      full = ((λ e. ap (λ (l : Log). has_place l pid op) log ∙ no_place l.priorities l.forgotten l.bounds whole pid op), λ e. refl);
       memory = λ e same. cc same;
     }
 

@@ -14,7 +14,7 @@ pub record Begins (first whole : Log) : Type 0 where
   pub priorities : whole.priorities ≡ first.priorities
   pub limit : whole.limit ≡ first.limit
   pub forgotten : whole.forgotten ≡ first.forgotten
-  pub largest : whole.largest ≡ first.largest
+  pub bounds : whole.bounds ≡ first.bounds
   pub entries : IsBefore first.entries whole.entries
 
 -- the entries of one process, in order

@@ -5,6 +5,7 @@ use Rattle.history.specs.Log.{Log}
 use Rattle.turnstile.specs.declared.rule.PassState.{PassState}
 use Rattle.turnstile.specs.declared.rule.Role.{Role}
 use Rattle.turnstile.specs.declared.rule.Role.TheVariants.{Process}
+use Rattle.ids.specs.Bounds.{given_by_default}
 
 -- which turnstile it is, and the history with which it was made
 pub record Gate : Type 0 where
@@ -21,7 +22,7 @@ abbrev pub gate_of : TableId → Log → Gate
 gate_of z start = record { table = z; start = start }
 
 abbrev pub no_log : Log
-no_log = record { entries = []; priorities = []; limit = 0; forgotten = []; largest = 0 }
+no_log = record { entries = []; priorities = []; limit = 0; forgotten = []; bounds = given_by_default }
 
 abbrev pub no_pass : PassState
 no_pass = record { pid = 0; seen = no_log; start = no_log }

@@ -58,6 +58,10 @@ impl Machine for Full {
         self.history.priorities().len()
     }
 
+    fn objects(&self) -> usize {
+        1
+    }
+
     fn is_living(&self, pid: Pid) -> bool {
         let made = self.history.priorities().len();
         if pid.0 == 0 {

@@ -1,4 +1,5 @@
 // The turnstile, and the calls through it.
+ghost use Rattle.ids.specs.Bounds.{bounds_of};
 ghost use Rattle.ids.specs.declared.limits.TheConstants.{LARGEST_FILE, MAX_ENTRIES, MAX_PROCESSES};
 ghost use Rattle.std.specs.Prelude.{◌≡◌, ◌≢◌, ◌<◌, ◌≤◌, ℕ, suc, true, [], length, map, All};
 ghost use Rattle.std.specs.Prelude.{vec_capacity};
@@ -253,10 +254,10 @@ impl<K: Machine> Turnstile<K> {
           priorities = priorities.now;
           limit = limits.entries;
           forgotten = [];
-          largest = limits.file_bytes;
+          bounds = bounds_of limits;
         }) × IsLegal t.0.start) }
         ensures passes { IfOk result (λ t. t.1.items ≡ first_passes t.0
-            (start 0 (record { priorities = priorities.now; largest = limits.file_bytes }))) }
+            (start 0 (record { priorities = priorities.now; bounds = bounds_of limits }))) }
         ensures gates { IfOk result (λ t. All (λ p. p.gate ≡ t.0) t.1.items) }
     {
         let kernel = K::with_limits(heap, priorities, limits)?;

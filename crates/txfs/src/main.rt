@@ -1,7 +1,7 @@
 //! `txfs`: serves a FUSE session on standard input and standard output. Each read gives one request,
 //! and each write is one reply.
 //!
-//! `txfs [--limit N] [--file-limit N]`
+//! `txfs [--limit N] [--file-limit N] [--bytes N]`
 #![tactic(auto)]
 
 mod mount;
@@ -9,10 +9,9 @@ mod mount;
 ghost use Rattle.std.specs.Prelude.{◌≤◌, IfOk};
 ghost use Rattle.ids.specs.declared.limits.TheConstants.{LARGEST_FILE, MAX_ENTRIES};
 
-use ids::Limits;
 use kernel::Kernel;
 use mount::serve;
-use mount_words::{CommandLineFault, read_limits};
+use mount_words::{CommandLineFault, Settings, read_settings};
 use session::{Ending, Streams};
 use std::io::Write;
 use std::process::ExitCode;
@@ -29,8 +28,8 @@ fn main(rt: HostRuntime) -> ExitCode {
 
 // Reads the command line, and serves the session up to its end. Returns the exit status.
 fn status(rt: &HostRuntime) -> u8 {
-    match limits_in(rt) {
-        Ok(limits) => serve_streams(rt, limits),
+    match settings_in(rt) {
+        Ok(settings) => serve_streams(rt, settings),
         Err(fault) => {
             fault.report(rt);
             fault.status()
@@ -39,19 +38,20 @@ fn status(rt: &HostRuntime) -> u8 {
 }
 
 // Serves the session on standard input and output.
-fn serve_streams(rt: &HostRuntime, limits: Limits) -> u8
-    requires entries { limits.entries ≤ MAX_ENTRIES }
-    requires files { limits.file_bytes ≤ LARGEST_FILE }
+fn serve_streams(rt: &HostRuntime, settings: Settings) -> u8
+    requires entries { settings.limits.entries ≤ MAX_ENTRIES }
+    requires files { settings.limits.file_bytes ≤ LARGEST_FILE }
 {
     let Ok(heap) = heap::open(rt.alloc()) else {
         return ended(rt, "txfs: no memory\n", NO_MEMORY);
     };
+    heap.hold_to(settings.bytes);
     let mut channel = Streams {
         input: rt.stdin(),
         output: rt.stdout(),
         clock: rt,
     };
-    match serve::<Kernel, _>(heap, limits, &mut channel) {
+    match serve::<Kernel, _>(heap, settings.limits, &mut channel) {
         Ok(Ending::Unmounted) => 0,
         Ok(Ending::Failed) => ended(rt, "txfs: read failed\n", READ_FAILED),
         Err(_) => ended(rt, "txfs: no memory\n", NO_MEMORY),
@@ -64,13 +64,13 @@ fn ended(rt: &HostRuntime, text: &str, status: u8) -> u8 {
     status
 }
 
-// The limits that the command line asks for.
-fn limits_in(rt: &HostRuntime) -> Result<Limits, CommandLineFault>
-    ensures entries { IfOk result (λ l. l.entries ≤ MAX_ENTRIES) }
-    ensures files { IfOk result (λ l. l.file_bytes ≤ LARGEST_FILE) }
+// What the command line asks for.
+fn settings_in(rt: &HostRuntime) -> Result<Settings, CommandLineFault>
+    ensures entries { IfOk result (λ s. s.limits.entries ≤ MAX_ENTRIES) }
+    ensures files { IfOk result (λ s. s.limits.file_bytes ≤ LARGEST_FILE) }
 {
     let words = words_of(rt)?;
-    read_limits(rt.alloc(), words.as_slice())
+    read_settings(rt.alloc(), words.as_slice())
 }
 
 // The words of the command line, the program's name first. A word that is not UTF-8 leaves none.

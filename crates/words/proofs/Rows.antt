@@ -45,6 +45,34 @@ no_number_of_bytes : found_in (codes "--schedule=1" ∷ codes "--file-limit=x" �
 unfolding clap_on_literals
 no_number_of_bytes = refl
 
+most_descriptors : found_in (codes "--schedule=1" ∷ codes "--descriptors" ∷ codes "1048576" ∷ codes "run.tx" ∷ []) ≡ []
+unfolding clap_on_literals
+most_descriptors = refl
+
+many_descriptors : found_in (codes "--schedule=1" ∷ codes "--descriptors" ∷ codes "1048577" ∷ codes "run.tx" ∷ []) ≡ ValueValidation ∷ []
+unfolding clap_on_literals
+many_descriptors = refl
+
+no_descriptors : found_in (codes "--schedule=1" ∷ codes "--descriptors=0" ∷ codes "run.tx" ∷ []) ≡ ValueValidation ∷ []
+unfolding clap_on_literals
+no_descriptors = refl
+
+longest_path : found_in (codes "--stream" ∷ codes "--path-limit" ∷ codes "4096" ∷ []) ≡ []
+unfolding clap_on_literals
+longest_path = refl
+
+long_path : found_in (codes "--stream" ∷ codes "--path-limit=4097" ∷ []) ≡ ValueValidation ∷ []
+unfolding clap_on_literals
+long_path = refl
+
+no_path : found_in (codes "--stream" ∷ codes "--path-limit=0" ∷ []) ≡ ValueValidation ∷ []
+unfolding clap_on_literals
+no_path = refl
+
+paths_apart : number_in (codes "txsh" ∷ codes "--descriptors=7" ∷ codes "--path-limit=9" ∷ codes "run.tx" ∷ []) (codes "path_limit") ≡ Some (codes "9")
+unfolding clap_on_literals
+paths_apart = refl
+
 -- each of the two limits has its own text
 limits_apart : number_in (codes "txsh" ∷ codes "--limit=7" ∷ codes "--file-limit=9" ∷ codes "run.tx" ∷ []) (codes "file_limit") ≡ Some (codes "9")
 unfolding clap_on_literals

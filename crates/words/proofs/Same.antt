@@ -1,12 +1,13 @@
 -- What is said of options' values that are looked up in one way is said of those looked up in another.
-use Rattle.std.proofs.Common.{◌≡◌, ℕ, List, [], Option, Result, Ok, Err, Bool, sym, ◌∙◌, subst, inl, inr, codes, IfErr, IfOk}
+use Rattle.std.proofs.Common.{◌≡◌, List, [], Option, Result, Ok, Err, sym, ◌∙◌, subst, inl, inr, codes, IfErr, IfOk}
 use Rattle.clap.specs.Words.{Text, fault_of}
-use Rattle.words.specs.Txsh.{HasFileToo, HasLimits, HasNoFile, HasNotOneWay, IsFaultOf, IsFlag, IsLimit, IsStream, IsTask, IsTaskFault, IsWay, SameMatches, number_in, txsh, value_in}
+use Rattle.words.specs.Txsh.{HasFileToo, HasLimits, HasNoFile, HasNotOneWay, IsFaultOf, IsFlag, IsLimit, IsStream, IsTask, IsTaskFault, IsWay, SameMatches, limits_in, number_in, txsh, value_in}
 use Rattle.words.specs.declared.CommandLineFault.{CommandLineFault}
 use Rattle.words.specs.declared.CommandLineFault.TheVariants.{OneWay, FileMissing, FileGiven, NotUtf8, Help, Usage, NoMemory}
+use Rattle.words.specs.declared.StreamJob.{StreamJob}
 use Rattle.words.specs.declared.Task.{Task}
 use Rattle.words.specs.declared.Task.TheVariants.{Script, Stream}
-use Rattle.words.specs.declared.TheConstants.{DEFAULT_FILE_LIMIT, DEFAULT_LIMIT, MAX_FILE_LIMIT, MAX_LIMIT}
+use Rattle.words.specs.declared.TheConstants.{DEFAULT_DESCRIPTORS, DEFAULT_FILE_LIMIT, DEFAULT_LIMIT, DEFAULT_PATH_LIMIT, MAX_DESCRIPTORS, MAX_FILE_LIMIT, MAX_LIMIT, MAX_PATH_LIMIT}
 use Rattle.words.specs.declared.Way.{Way}
 use Rattle.words.specs.declared.Way.TheVariants.{Schedule, Threads}
 
@@ -30,22 +31,24 @@ module _ (f g n m : Text → Option Text) (values : SameMatches f g) (numbers : 
     sym (numbers (codes "stream")) ∙ h.2,
   )
 
-  same_limits : (limit file_limit : ℕ) (check : Bool) → HasLimits n limit file_limit check → HasLimits m limit file_limit check
-  same_limits limit file_limit check h = record {
-    limit = subst (λ (t : Option Text). IsLimit DEFAULT_LIMIT MAX_LIMIT t limit) (numbers (codes "limit")) h.limit;
-    file_limit = subst (λ (t : Option Text). IsLimit DEFAULT_FILE_LIMIT MAX_FILE_LIMIT t file_limit) (numbers (codes "file_limit")) h.file_limit;
-    check = subst (λ (t : Option Text). IsFlag t check) (numbers (codes "check")) h.check;
+  same_limits : (given : StreamJob) → HasLimits n given → HasLimits m given
+  same_limits given h = record {
+    limit = subst (λ (t : Option Text). IsLimit DEFAULT_LIMIT MAX_LIMIT t given.limit) (numbers (codes "limit")) h.limit;
+    file_limit = subst (λ (t : Option Text). IsLimit DEFAULT_FILE_LIMIT MAX_FILE_LIMIT t given.file_limit) (numbers (codes "file_limit")) h.file_limit;
+    descriptors = subst (λ (t : Option Text). IsLimit DEFAULT_DESCRIPTORS MAX_DESCRIPTORS t given.descriptors) (numbers (codes "descriptors")) h.descriptors;
+    path_limit = subst (λ (t : Option Text). IsLimit DEFAULT_PATH_LIMIT MAX_PATH_LIMIT t given.path_limit) (numbers (codes "path_limit")) h.path_limit;
+    check = subst (λ (t : Option Text). IsFlag t given.check) (numbers (codes "check")) h.check;
   }
 
   same_task : (task : Task) → IsTask f n task → IsTask g m task
   same_task (Script job) h = record {
     way = same_way job.way h.way;
-    limits = same_limits job.limit job.file_limit job.check h.limits;
+    limits = same_limits (limits_in job) h.limits;
     file = sym (values (codes "file")) ∙ h.file;
   }
   same_task (Stream job) h = record {
     way = same_stream h.way;
-    limits = same_limits job.limit job.file_limit job.check h.limits;
+    limits = same_limits job h.limits;
     no_file = sym (values (codes "file")) ∙ h.no_file;
   }
 

@@ -11,8 +11,9 @@ use Rattle.clap.specs.declared.builder.ArgAction.TheVariants.{Set, SetTrue}
 use Rattle.clap.specs.declared.builder.value_parser.ValueParser.TheVariants.{Signed}
 use Rattle.clap.specs.declared.error.Error.{Error}
 use Rattle.clap.specs.declared.error.kind.ErrorKind.TheVariants.{DisplayHelp, OutOfMemory}
-use Rattle.words.specs.declared.TheConstants.{DEFAULT_FILE_LIMIT, DEFAULT_LIMIT}
-use Rattle.words.specs.declared.TheConstants.{MAX_FILE_LIMIT, MAX_LIMIT}
+use Rattle.words.specs.declared.TheConstants.{DEFAULT_DESCRIPTORS, DEFAULT_FILE_LIMIT}
+use Rattle.words.specs.declared.TheConstants.{DEFAULT_LIMIT, DEFAULT_PATH_LIMIT, MAX_DESCRIPTORS}
+use Rattle.words.specs.declared.TheConstants.{MAX_FILE_LIMIT, MAX_LIMIT, MAX_PATH_LIMIT}
 use Rattle.words.specs.declared.Way.{Way}
 use Rattle.words.specs.declared.Way.TheVariants.{Schedule, Threads}
 use Rattle.words.specs.declared.Job.{Job}
@@ -59,6 +60,22 @@ file_limit_rule = record (new_rule (codes "file_limit")) {
   value_names = 1;
 }
 
+abbrev pub descriptors_rule : Rule
+descriptors_rule = record (new_rule (codes "descriptors")) {
+  long = Some (codes "descriptors");
+  action = Some Set;
+  parser = Some (Signed (pos 1) (pos MAX_DESCRIPTORS));
+  value_names = 1;
+}
+
+abbrev pub path_limit_rule : Rule
+path_limit_rule = record (new_rule (codes "path_limit")) {
+  long = Some (codes "path-limit");
+  action = Some Set;
+  parser = Some (Signed (pos 1) (pos MAX_PATH_LIMIT));
+  value_names = 1;
+}
+
 abbrev pub check_rule : Rule
 check_rule = record (new_rule (codes "check")) {
   long = Some (codes "check");
@@ -68,14 +85,15 @@ check_rule = record (new_rule (codes "check")) {
 abbrev pub file_rule : Rule
 file_rule = record (new_rule (codes "file")) { action = Some Set; value_names = 1 }
 
--- `txsh [--schedule LIST] [--threads] [--stream] [--limit N] [--file-limit N] [--check] [FILE]`:
--- that exactly one of the three ways is given, and FILE with the first two alone, is the program's
--- own rule, below
+-- `txsh [--schedule LIST] [--threads] [--stream] [--limit N] [--file-limit N] [--descriptors N]
+-- [--path-limit N] [--check] [FILE]`: that exactly one of the three ways is given, and FILE with the
+-- first two alone, is the program's own rule, below
 abbrev pub txsh : App
 txsh =
     let scripts = with_rule (with_rule (new_app (codes "txsh")) schedule_rule) threads_rule in
     let ways = with_rule scripts stream_rule in
-    let limits = with_rule (with_rule ways limit_rule) file_limit_rule in
+    let lengths = with_rule (with_rule ways limit_rule) file_limit_rule in
+    let limits = with_rule (with_rule lengths descriptors_rule) path_limit_rule in
     with_rule (with_rule limits check_rule) file_rule
 
 -- a flag is set, by clap's text for it: `true` where the words have it, else `false`
@@ -128,35 +146,53 @@ IsLimit default most (Some text) limit =
     × ParsesUnsigned 32 10 text read
     × (limit ≡ min (result_unwrap_or read default) most)
 
+-- the limits of a job, and whether to check, as a stream has them
+abbrev pub limits_in : Job → StreamJob
+limits_in job = record {
+  limit = job.limit;
+  file_limit = job.file_limit;
+  descriptors = job.descriptors;
+  path_limit = job.path_limit;
+  check = job.check;
+}
+
 -- the limits, and whether to check, that the options' values give
-pub record HasLimits
-    (number : Text → Option Text) (most_entries most_bytes : ℕ) (is_checked : Bool)
-    : Type 0 where
-  pub limit : IsLimit DEFAULT_LIMIT MAX_LIMIT (number (codes "limit")) most_entries
+pub record HasLimits (number : Text → Option Text) (given : StreamJob) : Type 0 where
+  pub limit : IsLimit DEFAULT_LIMIT MAX_LIMIT (number (codes "limit")) given.limit
   pub file_limit :
-      IsLimit DEFAULT_FILE_LIMIT MAX_FILE_LIMIT (number (codes "file_limit")) most_bytes
-  pub check : IsFlag (number (codes "check")) is_checked
+      IsLimit DEFAULT_FILE_LIMIT MAX_FILE_LIMIT (number (codes "file_limit")) given.file_limit
+  pub descriptors :
+      IsLimit DEFAULT_DESCRIPTORS MAX_DESCRIPTORS (number (codes "descriptors")) given.descriptors
+  pub path_limit :
+      IsLimit DEFAULT_PATH_LIMIT MAX_PATH_LIMIT (number (codes "path_limit")) given.path_limit
+  pub check : IsFlag (number (codes "check")) given.check
 
 -- the job of a script that the options' values give
 pub record IsJob (value number : Text → Option Text) (job : Job) : Type 0 where
   pub way : IsWay value number job.way
-  pub limits : HasLimits number job.limit job.file_limit job.check
+  pub limits : HasLimits number (limits_in job)
   pub file : value (codes "file") ≡ Some (string_bytes job.file)
 
 -- what the options' values ask of a stream
 pub record IsStreamJob (value number : Text → Option Text) (job : StreamJob) : Type 0 where
   pub way : IsStream value number
-  pub limits : HasLimits number job.limit job.file_limit job.check
+  pub limits : HasLimits number job
   pub no_file : value (codes "file") ≡ None
 
 abbrev pub IsTask : (Text → Option Text) → (Text → Option Text) → Task → Type 0
 IsTask value number (Script job) = IsJob value number job
 IsTask value number (Stream job) = IsStreamJob value number job
 
--- a task's limits are within the bounds
+-- limits are within the bounds, and those of a task are
+pub record AreSmall (given : StreamJob) : Type 0 where
+  pub limit : given.limit ≤ MAX_LIMIT
+  pub file_limit : given.file_limit ≤ MAX_FILE_LIMIT
+  pub descriptors : given.descriptors ≤ MAX_DESCRIPTORS
+  pub path_limit : given.path_limit ≤ MAX_PATH_LIMIT
+
 abbrev pub IsSmall : Task → Type 0
-IsSmall (Script job) = (job.limit ≤ MAX_LIMIT) × (job.file_limit ≤ MAX_FILE_LIMIT)
-IsSmall (Stream job) = (job.limit ≤ MAX_LIMIT) × (job.file_limit ≤ MAX_FILE_LIMIT)
+IsSmall (Script job) = AreSmall (limits_in job)
+IsSmall (Stream job) = AreSmall job
 
 -- the texts of borrowed words
 abbrev pub texts : List (Bor Text) → List Text

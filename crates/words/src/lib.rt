@@ -1,14 +1,15 @@
 //! The command line of `txsh`:
-//! `txsh (--schedule LIST | --threads) [--limit N] [--file-limit N] [--check] FILE`, or
-//! `txsh --stream [--limit N] [--file-limit N] [--check]`.
+//! `txsh (--schedule LIST | --threads) [LIMITS] [--check] FILE`, or `txsh --stream [LIMITS] [--check]`,
+//! where the limits are `--limit N`, `--file-limit N`, `--descriptors N` and `--path-limit N`.
 #![tactic(auto)]
 
 ghost use Rattle.std.specs.Prelude.{◌≡◌, ◌≤◌, [], false, IfOk, IfErr, codes, string_bytes};
 ghost use Rattle.clap.specs.Words.{app_of, fault_of, first_value, found_of, one_text, rule_of};
-ghost use Rattle.words.specs.Txsh.{HasLimits, IsFaultOf, IsFlag, IsLimit, IsParseFault};
+ghost use Rattle.words.specs.Txsh.{AreSmall, HasLimits, IsFaultOf, IsFlag, IsLimit, IsParseFault};
 ghost use Rattle.words.specs.Txsh.{IsReportedAs, IsSmall, IsTask, IsTaskFault, IsWayOrNone};
-ghost use Rattle.words.specs.Txsh.{SameMatches, check_rule, file_limit_rule, file_rule, limit_rule};
-ghost use Rattle.words.specs.Txsh.{number_in, schedule_rule, status_of, stream_rule, texts};
+ghost use Rattle.words.specs.Txsh.{SameMatches, check_rule, descriptors_rule, file_limit_rule};
+ghost use Rattle.words.specs.Txsh.{file_rule, limit_rule, limits_in, path_limit_rule, number_in};
+ghost use Rattle.words.specs.Txsh.{schedule_rule, status_of, stream_rule, texts};
 ghost use Rattle.words.specs.Txsh.{threads_rule, txsh, value_in};
 
 use clap::error::ErrorKind;
@@ -28,6 +29,18 @@ pub const MAX_FILE_LIMIT: u32 = 2_147_483_647;
 
 /// How many bytes a file may have where `--file-limit` is not given.
 pub const DEFAULT_FILE_LIMIT: u32 = 1_048_576;
+
+/// The most descriptors that a process may be given: the largest value of `--descriptors`.
+pub const MAX_DESCRIPTORS: u32 = 1_048_576;
+
+/// How many descriptors a process may have where `--descriptors` is not given.
+pub const DEFAULT_DESCRIPTORS: u32 = 64;
+
+/// The most bytes that a path may be let have: the largest value of `--path-limit`.
+pub const MAX_PATH_LIMIT: u32 = 4096;
+
+/// How many bytes a path may have where `--path-limit` is not given.
+pub const DEFAULT_PATH_LIMIT: u32 = 1024;
 
 /// How a script is run.
 #[derive(Debug)]
@@ -63,6 +76,10 @@ pub struct StreamJob {
     pub limit: u32,
     /// How many bytes a file may have, at most [`MAX_FILE_LIMIT`].
     pub file_limit: u32,
+    /// How many descriptors a process may have, at most [`MAX_DESCRIPTORS`].
+    pub descriptors: u32,
+    /// How many bytes a path may have, at most [`MAX_PATH_LIMIT`].
+    pub path_limit: u32,
     /// Whether the history is checked as it grows.
     pub check: bool,
 }
@@ -76,6 +93,10 @@ pub struct Job {
     pub limit: u32,
     /// How many bytes a file may have, at most [`MAX_FILE_LIMIT`].
     pub file_limit: u32,
+    /// How many descriptors a process may have, at most [`MAX_DESCRIPTORS`].
+    pub descriptors: u32,
+    /// How many bytes a path may have, at most [`MAX_PATH_LIMIT`].
+    pub path_limit: u32,
     /// Whether the history is checked at the end.
     pub check: bool,
     /// The script's file.
@@ -88,6 +109,8 @@ impl Drop for Job {
             way: _,
             limit: _,
             file_limit: _,
+            descriptors: _,
+            path_limit: _,
             check: _,
             file: _,
         } = self;
@@ -139,9 +162,9 @@ impl CommandLineFault {
 
 // The program itself sees to it that one way to run is given, and a file with two of them, so
 // clap's own usage line would call `--schedule`, `--threads`, `--stream` and the file options.
-const USAGE: &str =
-    "txsh (--schedule <LIST> | --threads) [--limit <N>] [--file-limit <N>] [--check] <FILE>
-       txsh --stream [--limit <N>] [--file-limit <N>] [--check]";
+const USAGE: &str = "txsh (--schedule <LIST> | --threads) [LIMITS] [--check] <FILE>
+       txsh --stream [LIMITS] [--check]
+       LIMITS: [--limit <N>] [--file-limit <N>] [--descriptors <N>] [--path-limit <N>]";
 
 const ABOUT: &str =
     "Runs the operations of a script on a kernel with transactions, and prints the reply to each.";
@@ -215,6 +238,32 @@ fn file_limit_arg<'a>(alloc: Global) -> Arg<'a>
         .value_parser(clap::value_parser!(u32).range(1..=MAX_FILE_LIMIT as i64))
 }
 
+// `--descriptors N`
+fn descriptors_arg<'a>(alloc: Global) -> Arg<'a>
+    ensures rule { rule_of result ≡ descriptors_rule }
+    ensures local { result.global ≡ false }
+{
+    Arg::new(alloc, "descriptors")
+        .long("descriptors")
+        .value_name("N")
+        .help("How many descriptors a process may have, at most 1048576; 64 where it is not given")
+        .action(ArgAction::Set)
+        .value_parser(clap::value_parser!(u32).range(1..=MAX_DESCRIPTORS as i64))
+}
+
+// `--path-limit N`
+fn path_limit_arg<'a>(alloc: Global) -> Arg<'a>
+    ensures rule { rule_of result ≡ path_limit_rule }
+    ensures local { result.global ≡ false }
+{
+    Arg::new(alloc, "path_limit")
+        .long("path-limit")
+        .value_name("N")
+        .help("The most bytes of a path, at most 4096; 1024 where it is not given")
+        .action(ArgAction::Set)
+        .value_parser(clap::value_parser!(u32).range(1..=MAX_PATH_LIMIT as i64))
+}
+
 // `--check`
 fn check_arg<'a>(alloc: Global) -> Arg<'a>
     ensures rule { rule_of result ≡ check_rule }
@@ -246,7 +295,9 @@ fn command<'a>(alloc: Global) -> Result<Command<'a>, AllocError>
     let with_stream = with_threads.arg(stream_arg(alloc))?;
     let with_limit = with_stream.arg(limit_arg(alloc))?;
     let with_file_limit = with_limit.arg(file_limit_arg(alloc))?;
-    let with_check = with_file_limit.arg(check_arg(alloc))?;
+    let with_descriptors = with_file_limit.arg(descriptors_arg(alloc))?;
+    let with_path_limit = with_descriptors.arg(path_limit_arg(alloc))?;
+    let with_check = with_path_limit.arg(check_arg(alloc))?;
     let with_file = with_check.arg(file_arg(alloc))?;
     Ok(
         with_file
@@ -327,11 +378,10 @@ fn way_of(heap: Heap, matches: &ArgMatches) -> Result<Option<Way>, CommandLineFa
 fn job_of(heap: Heap, matches: &ArgMatches, way: Way, file: &str) -> Result<Job, CommandLineFault>
     ensures way { IfOk result (λ job. job.way ≡ way) }
     ensures limits { IfOk result (λ job.
-        HasLimits (one_text (found_of matches.now)) job.limit job.file_limit job.check) }
+        HasLimits (one_text (found_of matches.now)) (limits_in job)) }
     ensures file { IfOk result (λ job. string_bytes job.file ≡ file.now) }
     ensures err { IfErr result (λ e. e ≡ CommandLineFault.NoMemory) }
-    ensures small { IfOk result (λ job. job.limit ≤ MAX_LIMIT) }
-    ensures small_files { IfOk result (λ job. job.file_limit ≤ MAX_FILE_LIMIT) }
+    ensures small { IfOk result (λ job. AreSmall (limits_in job)) }
 {
     let Ok(file) = owned_text(heap, file) else {
         drop(way);
@@ -341,12 +391,16 @@ fn job_of(heap: Heap, matches: &ArgMatches, way: Way, file: &str) -> Result<Job,
     let StreamJob {
         limit,
         file_limit,
+        descriptors,
+        path_limit,
         check,
     } = stream_job_of(matches);
     Ok(Job {
         way,
         limit,
         file_limit,
+        descriptors,
+        path_limit,
         check,
         file,
     })
@@ -354,13 +408,14 @@ fn job_of(heap: Heap, matches: &ArgMatches, way: Way, file: &str) -> Result<Job,
 
 // What is asked of a stream.
 fn stream_job_of(matches: &ArgMatches) -> StreamJob
-    ensures limits { HasLimits (one_text (found_of matches.now)) result.limit result.file_limit result.check }
-    ensures small { result.limit ≤ MAX_LIMIT }
-    ensures small_files { result.file_limit ≤ MAX_FILE_LIMIT }
+    ensures limits { HasLimits (one_text (found_of matches.now)) result }
+    ensures small { AreSmall result }
 {
     StreamJob {
         limit: limit_of(matches, "limit", DEFAULT_LIMIT, MAX_LIMIT),
         file_limit: limit_of(matches, "file_limit", DEFAULT_FILE_LIMIT, MAX_FILE_LIMIT),
+        descriptors: limit_of(matches, "descriptors", DEFAULT_DESCRIPTORS, MAX_DESCRIPTORS),
+        path_limit: limit_of(matches, "path_limit", DEFAULT_PATH_LIMIT, MAX_PATH_LIMIT),
         check: flag_of(matches, "check"),
     }
 }

@@ -61,9 +61,12 @@ fn add_all(history: &mut History, entries: &[Entry], changed: usize) -> Result<(
 // What the check says of a history whose entry at this position has another reply.
 fn check_changed(heap: Heap, history: &History, at: usize) -> Result<Result<(), CheckFault>, Fail> {
     let entries = history.entries();
+    let bounds = history.bounds();
     let limits = Limits {
         entries: entries.len(),
-        file_bytes: history.largest_file(),
+        file_bytes: bounds.file_bytes,
+        descriptors: bounds.descriptors,
+        path_bytes: bounds.path_bytes,
     };
     let mut copy = History::with_limits(heap, history.priorities(), limits)?;
     let added = add_all(&mut copy, entries, at);

@@ -4,7 +4,7 @@ use crate::row::{Row, do_steps, kernel_of, lines_of, steps_in, transcript_of};
 use crate::transactions::TRANSACTIONS;
 use heap::Heap;
 use history::History;
-use ids::{LARGEST_FILE, Num, Op, Pid};
+use ids::{Num, Op, Pid};
 use kernel::Kernel;
 use machine::Machine;
 use replay::Checker;
@@ -46,8 +46,7 @@ fn put_and_forget<K: Machine>(
 
 // A checker of the entries that a kernel will make.
 fn checker_of(heap: Heap, history: &History) -> Result<Checker, AllocError> {
-    let largest = history.largest_file().min(LARGEST_FILE as u32);
-    Checker::with_largest_file(heap, Num(0), history.priorities(), largest)
+    Checker::with_bounds(heap, Num(0), history.priorities(), history.bounds())
 }
 
 // The lines of steps behind each of which all is forgotten.

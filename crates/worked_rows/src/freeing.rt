@@ -69,8 +69,8 @@ fn requests_of<K: Machine>(
     row: &(&'static str, &'static str),
 ) -> Result<u64, Fail> {
     let limits = Limits {
-        entries: 100,
         file_bytes: 2_147_483_647,
+        ..Limits::of_entries(100)
     };
     let mut kernel: K = kernel_with(heap, file, limits)?;
     requests_on(heap, &mut kernel, file, row)

@@ -41,8 +41,8 @@ enum Way {
 // A kernel of a row, with a history of so many entries.
 fn kernel_for<K: Machine>(heap: Heap, large: &Large, entries: usize) -> Result<K, Fail> {
     let limits = Limits {
-        entries,
         file_bytes: large.file_bytes,
+        ..Limits::of_entries(entries)
     };
     kernel_with(heap, large.row.script, limits)
 }

@@ -28,6 +28,8 @@ mod errors_of_rights;
 #[cfg(test)]
 mod errors_of_truncates;
 #[cfg(test)]
+mod exchanges;
+#[cfg(test)]
 mod fifos;
 #[cfg(test)]
 mod files;
@@ -60,6 +62,10 @@ mod limits;
 #[cfg(test)]
 mod links;
 #[cfg(test)]
+mod long_paths;
+#[cfg(test)]
+mod many_descriptors;
+#[cfg(test)]
 mod modes;
 #[cfg(test)]
 mod moved;
@@ -76,6 +82,8 @@ mod pipes;
 #[cfg(test)]
 mod processes;
 #[cfg(test)]
+mod ranges;
+#[cfg(test)]
 mod refused;
 #[cfg(test)]
 mod refused_files;
@@ -85,6 +93,8 @@ mod refused_names;
 mod refused_offsets;
 #[cfg(test)]
 mod refused_pipes;
+#[cfg(test)]
+mod renamed_files;
 #[cfg(test)]
 mod renames;
 #[cfg(test)]

@@ -2,7 +2,7 @@
 use crate::openings::row_after;
 use crate::row::{Large, Row};
 
-pub(crate) static LIMITED_TRUNCATES: [Large; 4] = [
+pub(crate) static LIMITED_TRUNCATES: [Large; 5] = [
     // Files of at most five bytes.
     Large {
         file_bytes: 5,
@@ -150,6 +150,39 @@ pub(crate) static LIMITED_TRUNCATES: [Large; 4] = [
 13 P1 end -> committed
 14 P1 truncate /a 2147482624 -> ok
 15 P2 stat /a -> file size 2147482624 links 1
+",
+        },
+    },
+    // A range that is kept for such a file ends with it at the latest.
+    Large {
+        file_bytes: 5,
+        row: Row {
+            script: "priorities 0
+1 open /a RDWR,CREAT
+1 fallocate 0 5 1 GROW
+1 fallocate 0 4 2 KEEP
+1 fallocate 0 0 6 PUNCH
+1 fallocate 0 4 1 GROW
+1 write 0 abcde
+1 begin
+1 fallocate 0 0 6 PUNCH
+1 fallocate 0 1 4 PUNCH
+1 pread 0 9 0
+1 end
+",
+            schedule: "1,1,1,1,1,1,1,1,1,1,1",
+            limit: 100,
+            transcript: "1 P1 open /a RDWR,CREAT -> 0
+2 P1 fallocate 0 5 1 GROW -> EFBIG
+3 P1 fallocate 0 4 2 KEEP -> EFBIG
+4 P1 fallocate 0 0 6 PUNCH -> EFBIG
+5 P1 fallocate 0 4 1 GROW -> ok
+6 P1 write 0 abcde -> 5
+7 P1 begin -> begun
+8 P1 fallocate 0 0 6 PUNCH -> EFBIG
+9 P1 fallocate 0 1 4 PUNCH -> ok
+10 P1 pread 0 9 0 -> 5 a\\x00\\x00\\x00\\x00
+11 P1 end -> committed
 ",
         },
     },

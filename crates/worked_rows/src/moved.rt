@@ -80,8 +80,8 @@ fn is_moved<K: Machine>(heap: Heap, kernel: &mut K) -> Result<bool, Fail> {
 
 fn is_moved_anew<K: Machine>(heap: Heap) -> Result<bool, Fail> {
     let limits = Limits {
-        entries: 100,
         file_bytes: LARGEST_FILE as u32,
+        ..Limits::of_entries(100)
     };
     let mut kernel: K = kernel_with(heap, OPENED, limits)?;
     is_moved(heap, &mut kernel)

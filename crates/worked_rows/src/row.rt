@@ -41,6 +41,7 @@ pub(crate) fn kernel_with<K: Machine>(heap: Heap, text: &str, limits: Limits) ->
     let limits = Limits {
         entries: limits.entries.min(1000),
         file_bytes: limits.file_bytes.min(LARGEST_FILE as u32),
+        ..limits
     };
     Ok(K::with_limits(heap, script.priorities(), limits)?)
 }

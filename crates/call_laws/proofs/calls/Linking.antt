@@ -1,17 +1,17 @@
 -- What a call gives one more name is what it has found: only `link` gives one, and by one edit.
-use Rattle.std.proofs.Common.{◌≡◌, ℕ, ℤ, pos, negsuc, ◌+ℤ◌, Bool, true, false, not, ◌&&◌, ◌||◌, ◌==◌, List, [], ◌∷◌, ◌++◌, length, take, if◌then◌else◌, nat_lt, nat_le, Option, Some, None, Result, Ok, Err, IfOk, refl, sym, ap, subst, ◌∙◌}
+use Rattle.std.proofs.Common.{◌≡◌, ℕ, ◌+◌, ◌-◌, min, ℤ, pos, negsuc, Bool, true, false, not, ◌&&◌, ◌||◌, ◌==◌, List, [], ◌∷◌, ◌++◌, length, take, if◌then◌else◌, nat_lt, nat_le, Option, Some, None, Result, Ok, Err, IfOk, refl, sym, ap, subst, ◌∙◌}
 use Rattle.std.specs.Prelude.{⊤}
 use Rattle.std.specs.List.{list_any}
 use Rattle.model.specs.FiniteMap.{keys}
 use Rattle.model.specs.State.{Name, A_file, A_directory, A_pipe, A_link, A_fifo, A_socket, Kernel, names_of}
 use Rattle.model.specs.Aspects.{Keeps, KeepsAll}
-use Rattle.model.specs.Plan.{Errno, Plan, Count_ends, Fit, Give, Refuse, Ask, shown, answer, seen, given, ◌>>=◌, ◌>>◌, refuse_if, or_refuse, EINVAL, ENOENT, ENAMETOOLONG, EEXIST, EBUSY, EBADF, EPERM, ENOTDIR, ENOTEMPTY, EISDIR, ELOOP, ENXIO, EFBIG, ESPIPE, EPIPE, EAGAIN}
-use Rattle.model.specs.Changes.{Mode, There, Name_file, Unname_directory, Append, Open_inode, Set_offset}
+use Rattle.model.specs.Plan.{Errno, Plan, Measure, Count_ends, Fit, Give, Refuse, Ask, shown, answer, seen, given, ◌>>=◌, ◌>>◌, refuse_if, or_refuse, EINVAL, ENOENT, ENAMETOOLONG, EEXIST, EBUSY, EBADF, EPERM, ENOTDIR, ENOTEMPTY, EISDIR, ELOOP, ENXIO, EFBIG, ESPIPE, EPIPE, EAGAIN}
+use Rattle.model.specs.Changes.{Mode, There, Name_file, Unname_directory, Append, Open_inode, Set_offset, Wipe, Cut}
 use Rattle.model.specs.Paths.{is_empty, is_below, path_names}
 use Rattle.model.specs.Walks.{Place, Last, told, parsed, walk, last_of, is_directory, is_link}
 use Rattle.ids.specs.Flags.{is_reading, is_writing, is_creating, is_exclusive, is_truncating}
-use Rattle.model.specs.Calls.{OpenFlags, Call, Open, Close, Read, Pread, Write, Pwrite, Lseek, Ftruncate, Truncate, Stat, Fstat, Link, Unlink, Rename, Mkdir, Rmdir, List_directory, Symlink, Readlink, Lstat, Mknod, Chmod, Chown, Fchmod, Fchown, Dup, Dup2, Open_pipe, Fork, Exit, Done, Descriptor, Count, Bytes, Slot, Own, own}
-use Rattle.model.specs.Plans.{Change, changed, unchanged, target_limit, most_processes, mode, cut_to, absent, status, is_special, slot, is_pipe, read_pipe, read_some, place_to_write, write_some, offset_named, base, sought, replaced_by_name, moved, opened, free, first_of_free, duplicated, piped}
+use Rattle.model.specs.Calls.{OpenFlags, Call, Open, Close, Read, Pread, Write, Pwrite, Lseek, Ftruncate, Truncate, Stat, Fstat, Link, Unlink, Rename, Exchange, Fallocate, Space, Grow, Keep, Punch, Mkdir, Rmdir, List_directory, Symlink, Readlink, Lstat, Mknod, Chmod, Chown, Fchmod, Fchown, Dup, Dup2, Open_pipe, Fork, Exit, Done, Descriptor, Count, Bytes, Slot, Own, own}
+use Rattle.model.specs.Plans.{Change, changed, unchanged, target_limit, most_processes, mode, cut_to, absent, status, is_special, slot, is_pipe, read_pipe, read_some, place_to_write, write_some, offset_named, length_named, aimed, sought, spaced, replaced_by_name, moved, opened, free, first_of_free, duplicated, piped, open_limit}
 use Rattle.model.specs.Steps.{outcome, reads, edits_of, edits}
 use Rattle.model.proofs.Laws.{all-append, append-all, goes_the_same_way}
 use Rattle.call_laws.specs.WellFormed.{WellFormed}
@@ -55,13 +55,13 @@ module _ (k : Kernel) (P : ℕ → Type 0) where
       allowed k (Fine P) (nat_lt fitting (length bytes) && nat_le (length bytes) 512) EAGAIN (refuse_if (fitting == 0) EAGAIN >> changed (Count fitting) (Append s.inode (take fitting bytes) ∷ [])) (λ _.
       allowed k (Fine P) (fitting == 0) EAGAIN (changed (Count fitting) (Append s.inode (take fitting bytes) ∷ [])) (λ _. (tt, tt))))
 
-  write_links : (s : Slot) (bytes : List ℕ) → IfOk (given k (write_some k.largest s bytes)) (Fine P)
-  write_links s bytes = either_given k (Fine P) (is_pipe s.kind) (write_pipe s bytes) (place_to_write s s.appending >>= put_at k.largest s bytes)
+  write_links : (s : Slot) (bytes : List ℕ) → IfOk (given k (write_some k.bounds.file_bytes s bytes)) (Fine P)
+  write_links s bytes = either_given k (Fine P) (is_pipe s.kind) (write_pipe s bytes) (place_to_write s s.appending >>= put_at k.bounds.file_bytes s bytes)
       (λ _. pipe_links s bytes)
-      (λ _. after_bind k (Fine P) (place_to_write s s.appending) (put_at k.largest s bytes) (whatever (given k (place_to_write s s.appending)) (λ place. allowed k (Fine P) (nat_le k.largest place) EFBIG _ (λ _. (tt, (tt, tt))))))
+      (λ _. after_bind k (Fine P) (place_to_write s s.appending) (put_at k.bounds.file_bytes s bytes) (whatever (given k (place_to_write s s.appending)) (λ place. allowed k (Fine P) (nat_le k.bounds.file_bytes place) EFBIG _ (λ _. (tt, (tt, tt))))))
 
-  sought_links : (s : Slot) (to : ℤ) → IfOk (given k (sought k.largest s to)) (Fine P)
-  sought_links s (pos place) = allowed k (Fine P) (nat_lt k.largest place) EINVAL _ (λ _. (tt, tt))
+  sought_links : (s : Slot) (to : ℤ) → IfOk (given k (sought k.bounds.file_bytes s to)) (Fine P)
+  sought_links s (pos place) = allowed k (Fine P) (nat_lt k.bounds.file_bytes place) EINVAL _ (λ _. (tt, tt))
   sought_links s (negsuc place) = tt
 
   cut_links : (f n pid : ℕ) (how : Mode) (b : Bool) → IfOk (given k ((if b then cut_to n 0 else Give []) >>= (λ cut. changed (Descriptor f) (cut ++ Open_inode 0 (There n) how pid f ∷ [])))) (Fine P)
@@ -93,11 +93,24 @@ module _ (k : Kernel) (P : ℕ → Type 0) where
       allowed k (Fine P) (is_directory what && not (is_directory old)) ENOTDIR _ (λ _.
       after_bind k (Fine P) (replaced_by_name old.0 (is_directory old)) _ (whatever (given k (replaced_by_name old.0 (is_directory old))) (λ replaced. (tt, tt))))))
 
-  -- a path with its names, a slot, a last name, what is found, a walk
-  with_path : (path : List ℕ) (f : List Name → Plan Change) → ((names : List Name) → path_names path ≡ Ok names → IfOk (given k (f names)) (Fine P)) → IfOk (given k (parsed path >>= f)) (Fine P)
-  with_path path f h = by_result (path_names path) refl
+  spaced_links : (n at count : ℕ) (space : Space) → IfOk (given k (spaced n at count space)) (Fine P)
+  spaced_links n at count Grow = grown (nat_lt (answer k (Measure n)) (at + count))
     where
-      by_result : (r : Result (List Name) Errno) → path_names path ≡ r → IfOk (given k (told r >>= f)) (Fine P)
+      grown : (b : Bool) → Fine P (record { reply = Done; edits = if b then Cut n (answer k (Measure n)) (at + count) ∷ [] else [] })
+      grown true = (tt, tt)
+      grown false = tt
+  spaced_links n at count Keep = tt
+  spaced_links n at count Punch = wiped (nat_lt at (answer k (Measure n)))
+    where
+      wiped : (b : Bool) → Fine P (record { reply = Done; edits = if b then Wipe n at (min count (answer k (Measure n) - at)) ∷ [] else [] })
+      wiped true = (tt, tt)
+      wiped false = tt
+
+  -- a path with its names, a slot, a last name, what is found, a walk
+  with_path : (path : List ℕ) (f : List Name → Plan Change) → ((names : List Name) → path_names k.bounds.path_bytes path ≡ Ok names → IfOk (given k (f names)) (Fine P)) → IfOk (given k (parsed k.bounds.path_bytes path >>= f)) (Fine P)
+  with_path path f h = by_result (path_names k.bounds.path_bytes path) refl
+    where
+      by_result : (r : Result (List Name) Errno) → path_names k.bounds.path_bytes path ≡ r → IfOk (given k (told r >>= f)) (Fine P)
       by_result (Ok names) e = h names e
       by_result (Err e) is = tt
 
@@ -106,7 +119,7 @@ module _ (k : Kernel) (P : ℕ → Type 0) where
 
   -- what `link` finds at its first path
   abbrev Finds : Call → Type 0
-  Finds (Link old path) = (from to : List Name) → path_names old ≡ Ok from → path_names path ≡ Ok to → IfOk (given k (walk (k.root, Some A_directory) from)) (λ what. P what.0)
+  Finds (Link old path) = (from to : List Name) → path_names k.bounds.path_bytes old ≡ Ok from → path_names k.bounds.path_bytes path ≡ Ok to → IfOk (given k (walk (k.root, Some A_directory) from)) (λ what. P what.0)
   Finds call = ⊤
 
   links_first : (pid : ℕ) (call : Call) → Finds call → IfOk (outcome k pid call) (Fine P)
@@ -131,18 +144,22 @@ module _ (k : Kernel) (P : ℕ → Type 0) where
       allowed k (Fine P) (not s.writing) EBADF _ (λ _.
       allowed k (Fine P) (is_pipe s.kind) ESPIPE _ (λ _.
       with_any (or_refuse EINVAL (offset_named offset)) _ (λ at.
-      either_given k (Fine P) (is_empty bytes) _ _ (λ _. tt) (λ _. allowed k (Fine P) (nat_le k.largest at) EFBIG _ (λ _. (tt, tt)))))))
+      either_given k (Fine P) (is_empty bytes) _ _ (λ _. tt) (λ _. allowed k (Fine P) (nat_le k.bounds.file_bytes at) EFBIG _ (λ _. (tt, tt)))))))
   links_first pid (Lseek f move whence) h = with_any (slot (own k pid (Lseek f move whence)) f) _ (λ s.
-      allowed k (Fine P) (is_pipe s.kind) ESPIPE _ (λ _. with_any (base s whence) _ (λ place. sought_links s (pos place +ℤ move))))
+      allowed k (Fine P) (is_pipe s.kind) ESPIPE _ (λ _. with_any (aimed s move whence) _ (λ sum. sought_links s sum)))
+  links_first pid (Fallocate f offset len space) h = with_any (slot (own k pid (Fallocate f offset len space)) f) _ (λ s.
+      with_any (or_refuse EINVAL (offset_named offset)) _ (λ at. with_any (or_refuse EINVAL (length_named len)) _ (λ count.
+      allowed k (Fine P) (not s.writing) EBADF _ (λ _.
+      allowed k (Fine P) (is_pipe s.kind) ESPIPE _ (λ _. allowed k (Fine P) (nat_lt k.bounds.file_bytes (at + count)) EFBIG _ (λ _. spaced_links s.inode at count space))))))
   links_first pid (Ftruncate f len) h = with_any (slot (own k pid (Ftruncate f len)) f) _ (λ s.
       allowed k (Fine P) (not s.writing) EBADF _ (λ _.
-      allowed k (Fine P) (is_pipe s.kind) EINVAL _ (λ _. allowed k (Fine P) (nat_lt k.largest len) EFBIG _ (λ _. (tt, tt)))))
+      allowed k (Fine P) (is_pipe s.kind) EINVAL _ (λ _. allowed k (Fine P) (nat_lt k.bounds.file_bytes len) EFBIG _ (λ _. (tt, tt)))))
   links_first pid (Truncate path len) h =
       with_path path _ (λ names _. with_any (walk (k.root, Some A_directory) names) _ (λ place.
       allowed k (Fine P) (is_directory place) EISDIR _ (λ _.
       allowed k (Fine P) (is_link place) ELOOP _ (λ _.
       allowed k (Fine P) (is_special place) EINVAL _ (λ _.
-      allowed k (Fine P) (nat_lt k.largest len) EFBIG _ (λ _. (tt, tt)))))))
+      allowed k (Fine P) (nat_lt k.bounds.file_bytes len) EFBIG _ (λ _. (tt, tt)))))))
   links_first pid (Stat path) h = with_path path _ (λ names _. with_any (walk (k.root, Some A_directory) names) _ (λ place. allowed k (Fine P) (is_link place) ELOOP _ (λ _. status_links place)))
   links_first pid (Fstat f) h = with_any (slot (own k pid (Fstat f)) f) _ (λ s. status_links (s.inode, s.kind))
   links_first pid (Link old path) h =
@@ -157,6 +174,13 @@ module _ (k : Kernel) (P : ℕ → Type 0) where
       with_any (last_of k.root EBUSY from) _ (λ at. with_any (or_refuse ENOENT at.found) _ (λ what.
       allowed k (Fine P) (is_directory what && is_below from to) EINVAL _ (λ _.
       with_any (last_of k.root EBUSY to) _ (λ onto. moved_links at what onto onto.found)))))))
+  links_first pid (Exchange old path) h = with_path old _ (λ from _. with_path path _ (λ to _.
+      allowed k (Fine P) (is_empty from || is_empty to) EBUSY _ (λ _.
+      with_any (last_of k.root EBUSY from) _ (λ at. with_any (last_of k.root EBUSY to) _ (λ onto.
+      with_any (or_refuse ENOENT at.found) _ (λ what. with_any (or_refuse ENOENT onto.found) _ (λ other.
+      allowed k (Fine P) (is_directory what && is_below from to) EINVAL _ (λ _.
+      allowed k (Fine P) (is_directory other && is_below to from) EINVAL _ (λ _.
+      either_given k (Fine P) (what.0 == other.0) _ _ (λ _. tt) (λ _. (tt, tt)))))))))))
   links_first pid (Mkdir path) h = with_path path _ (λ names _. with_any (last_of k.root EEXIST names) _ (λ at. absent_links at.found _ (tt, tt)))
   links_first pid (Rmdir path) h = with_path path _ (λ names _. with_any (last_of k.root EBUSY names) _ (λ at. with_any (or_refuse ENOENT at.found) _ (λ what.
       allowed k (Fine P) (not (is_directory what)) ENOTDIR _ (λ _.
@@ -177,7 +201,7 @@ module _ (k : Kernel) (P : ℕ → Type 0) where
   links_first pid (Fchown f owner) h = with_any (slot (own k pid (Fchown f owner)) f) _ (λ s. (tt, tt))
   links_first pid (Dup f) h = with_any (slot (own k pid (Dup f)) f) _ (λ s. duplicated_links (own k pid (Dup f)) s (free (own k pid (Dup f))))
   links_first pid (Dup2 f g) h = with_any (slot (own k pid (Dup2 f g)) f) _ (λ s.
-      allowed k (Fine P) (nat_lt 63 g) EBADF _ (λ _. either_given k (Fine P) (f == g) _ _ (λ _. tt) (λ _. (tt, tt))))
+      allowed k (Fine P) (nat_le (open_limit (own k pid (Dup2 f g))) g) EBADF _ (λ _. either_given k (Fine P) (f == g) _ _ (λ _. tt) (λ _. (tt, tt))))
   links_first pid Open_pipe h = piped_links (own k pid Open_pipe) (free (own k pid Open_pipe))
   links_first pid Fork h = allowed k (Fine P) (nat_le most_processes k.made) EAGAIN _ (λ _. (tt, tt))
   links_first pid Exit h = (tt, tt)
@@ -204,11 +228,11 @@ one_walk k l well well_too root names kept =
     one_place k l (given k (walk (k.root, Some A_directory) names)) here (subst (λ r. IfOk r (IsPlace l)) way.given there)
 
 -- the first path's walk is seen, where both are paths
-walk_seen : (k l : Kernel) (pid : ℕ) (old path : List ℕ) (from to : List Name) → path_names old ≡ Ok from → path_names path ≡ Ok to → KeepsAll k l (reads k pid (Link old path)) → KeepsAll k l (seen k (walk (k.root, Some A_directory) from))
+walk_seen : (k l : Kernel) (pid : ℕ) (old path : List ℕ) (from to : List Name) → path_names k.bounds.path_bytes old ≡ Ok from → path_names k.bounds.path_bytes path ≡ Ok to → KeepsAll k l (reads k pid (Link old path)) → KeepsAll k l (seen k (walk (k.root, Some A_directory) from))
 walk_seen k l pid old path from to is is_too kept =
     seen_first k l (walk (k.root, Some A_directory) from) (rest to)
     (subst (λ r. KeepsAll k l (seen k (told r >>= (λ names. walk (k.root, Some A_directory) from >>= rest names)))) is_too
-    (subst (λ r. KeepsAll k l (seen k (told r >>= (λ names. parsed path >>= (λ others. walk (k.root, Some A_directory) names >>= rest others))))) is kept))
+    (subst (λ r. KeepsAll k l (seen k (told r >>= (λ names. parsed k.bounds.path_bytes path >>= (λ others. walk (k.root, Some A_directory) names >>= rest others))))) is kept))
   where
     rest : List Name → Place → Plan Change
     rest to what = refuse_if (is_directory what) EPERM >> (last_of k.root EEXIST to >>= (λ at. absent at.found >> changed Done (Name_file at.parent at.name what.0 ∷ [])))

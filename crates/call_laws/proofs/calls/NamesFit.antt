@@ -1,14 +1,14 @@
--- The edits of calls on names fit: mkdir, symlink, mknod, rmdir, link, unlink and rename.
+-- The edits of calls on names fit: mkdir, symlink, mknod, rmdir, link, unlink, rename and exchange.
 use Rattle.std.proofs.Common.{◌≡◌, ◌≢◌, ℕ, Bool, true, false, not, ◌&&◌, List, [], ◌∷◌, Option, Some, None, IfOk, refl, sym, subst, ◌∙◌, arith, ◌==◌}
 use Rattle.model.specs.FiniteMap.{get, keys}
 use Rattle.model.specs.State.{Name, Kind, A_file, A_directory, A_pipe, A_link, A_fifo, A_socket, Fixed_content, Kernel, kind_of, names_of, links}
 use Rattle.model.specs.Plan.{Errno, Plan, Give, given, ◌>>=◌, ◌>>◌, ask, List_names, refuse_if, or_refuse, ENOENT, ENOTDIR, ENOTEMPTY, EBUSY, EPERM, EINVAL, EISDIR}
 use Rattle.model.specs.Paths.{is_empty, is_below}
 use Rattle.model.specs.Walks.{Place, is_directory, is_link, Last, last_of}
-use Rattle.model.specs.Changes.{Make_directory, Make_fixed, Name_file, Unname_file, Unname_directory, Move}
+use Rattle.model.specs.Changes.{Make_directory, Make_fixed, Name_file, Unname_file, Unname_directory, Move, Swap}
 use Rattle.model.specs.Changes.{Replaced, Over_nothing, Over_file, Over_directory}
 use Rattle.model.specs.Calls.{Done}
-use Rattle.model.specs.Plans.{Change, changed, unchanged, absent, status, is_special, replaced_by_name, moved}
+use Rattle.model.specs.Plans.{Change, changed, unchanged, absent, status, is_special, replaced_by_name, moved, swapped}
 use Rattle.call_laws.specs.WellFormed.{CanBeLinked, Leads, WellFormed}
 use Rattle.call_laws.specs.Fits.{CanMove, CanBeReplaced, IsAlive}
 use Rattle.std.proofs.lemmas.Bool.{not-false}
@@ -175,3 +175,34 @@ module _ (k : Kernel) (well : WellFormed k) (pid : ℕ) (alive : IsAlive k pid) 
       allowed k Fine (is_directory what && is_below from to) EINVAL (last_of k.root EBUSY to >>= (λ onto. moved at what onto onto.found)) (λ test.
       after_bind k Fine (last_of k.root EBUSY to) (λ onto. moved at what onto onto.found) (weaken (given k (last_of k.root EBUSY to)) (both_ok (IsLast k) (IsLedTo k k.root to) (given k (last_of k.root EBUSY to)) (last_of_right k well EBUSY to) (last_of_led k EBUSY to)) (λ onto both.
       moved_at at onto what kind.0 last both.0 there.0 (there.1 ∙ kind.1) (ring_by from to at onto what place led both.1 both.0 there.0 test) onto.found refl)))
+
+  -- two names that change places, where neither path goes on from the other
+  pub exchange_at : (from to : List Name) (at onto : Last) → IsLast k at → IsLedTo k k.root from at → IsLast k onto → IsLedTo k k.root to onto → (o p : Option Place) → at.found ≡ o → onto.found ≡ p
+      → IfOk (given k (or_refuse ENOENT o >>= (λ what. or_refuse ENOENT p >>= (λ other. refuse_if (is_directory what && is_below from to) EINVAL >> (refuse_if (is_directory other && is_below to from) EINVAL >> swapped at what onto other))))) Fine
+  exchange_at from to at onto last led last_onto led_onto None p e f = tt
+  exchange_at from to at onto last led last_onto led_onto (Some what) None e f = tt
+  exchange_at from to at onto last led last_onto led_onto (Some what) (Some other) e f =
+      let there = given_there k what (get (names_of k at.parent) at.name) (sym last.found ∙ e) in
+      let there_too = given_there k other (get (names_of k onto.parent) onto.name) (sym last_onto.found ∙ f) in
+      let place = entry_place k well at.parent at.name what (sym last.found ∙ e) in
+      let place_too = entry_place k well onto.parent onto.name other (sym last_onto.found ∙ f) in
+      let kind = some_kind what.1 place.can_be_named in
+      let kind_too = some_kind other.1 place_too.can_be_named in
+      allowed k Fine (is_directory what && is_below from to) EINVAL (refuse_if (is_directory other && is_below to from) EINVAL >> swapped at what onto other) (λ test.
+      allowed k Fine (is_directory other && is_below to from) EINVAL (swapped at what onto other) (λ test_too.
+      either_given k Fine (what.0 == other.0) (unchanged Done) (changed Done (Swap at.parent at.name what.0 onto.parent onto.name other.0 ∷ [])) (λ _. unchanged_fits k pid inside chosen Done) (λ away. record {
+        fits = λ can. (
+          record {
+            what = kind.0;
+            other = kind_too.0;
+            first = record { parent = last.parent; gives = there.0; kind = there.1 ∙ kind.1 };
+            second = record { parent = last_onto.parent; gives = there_too.0; kind = there_too.1 ∙ kind_too.1 };
+            apart = not_same what.0 other.0 away;
+            no_ring = ring_by from to at onto what place led led_onto last_onto there.0 test;
+            no_ring_back = ring_by to from onto at other place_too led_onto led last there_too.0 test_too;
+          },
+          tt,
+        );
+        by = (tt, tt);
+        there = (last.parent.directory, (last_onto.parent.directory, tt));
+      })))

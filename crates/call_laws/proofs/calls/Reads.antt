@@ -1,16 +1,17 @@
 -- What a call reads is there, and is left by tidying.
-use Rattle.std.proofs.Common.{◌≡◌, ◌≢◌, ℕ, ◌+◌, Bool, true, false, not, ◌&&◌, ◌||◌, ℤ, pos, negsuc, ◌+ℤ◌, List, [], ◌∷◌, ◌++◌, map, length, take, min, Option, Some, None, Result, Ok, Err, IfOk, refl, sym, subst, ◌∙◌, ◌==◌, nat_lt, nat_le, if◌then◌else◌}
+use Rattle.std.proofs.Common.{◌≡◌, ◌≢◌, ℕ, suc, ◌+◌, ◌-◌, ◌/◌, Bool, true, false, not, ◌&&◌, ◌||◌, ℤ, pos, negsuc, List, [], ◌∷◌, ◌++◌, map, length, take, min, Option, Some, None, Result, Ok, Err, IfOk, refl, sym, subst, ◌∙◌, ◌==◌, nat_lt, nat_le, if◌then◌else◌}
 use Rattle.std.specs.List.{AllByRecursion, list_any}
 use Rattle.model.specs.FiniteMap.{get, keys}
 use Rattle.model.specs.State.{Name, Kind, A_file, A_directory, A_pipe, A_link, A_fifo, A_socket, Kernel, names_of, kind_of, entry_of}
 use Rattle.model.specs.Aspects.{Aspect, Entry, Names, Size, Block, Links, Ends, Offset, Front, Back, Target, Rights}
-use Rattle.model.specs.Plan.{Errno, EINVAL, ENOENT, EEXIST, EBUSY, EBADF, EPERM, ENOTDIR, ENOTEMPTY, EISDIR, EFBIG, ESPIPE, EPIPE, EAGAIN, ELOOP, ENXIO, ENAMETOOLONG, Plan, Give, Refuse, Ask, Count_ends, Find_offset, Read_file, Read_pipe, Fit, answer, shown, given, seen, ◌>>=◌, ◌>>◌, ask, refuse_if, or_refuse}
+use Rattle.model.specs.Plan.{Errno, EINVAL, ENOENT, EEXIST, EBUSY, EBADF, EPERM, ENOTDIR, ENOTEMPTY, EISDIR, EFBIG, ESPIPE, EPIPE, EAGAIN, ELOOP, ENXIO, ENAMETOOLONG, Plan, Give, Refuse, Ask, Count_ends, Find_offset, Read_file, Read_pipe, Fit, Measure, Pass_blocks, block_length, rising, answer, shown, given, seen, ◌>>=◌, ◌>>◌, ask, refuse_if, or_refuse}
+use Rattle.model.specs.Holes.{behind_blocks}
 use Rattle.model.specs.Paths.{is_empty, is_below, path_names}
 use Rattle.model.specs.Walks.{Place, told, parsed, is_directory, is_link, walk, last, last_of, Last}
-use Rattle.model.specs.Changes.{Mode, There, Move, Set_offset, Append, Open_inode, is_held, Replaced, Over_directory}
+use Rattle.model.specs.Changes.{Mode, There, Move, Swap, Set_offset, Append, Open_inode, is_held, Replaced, Over_directory}
 use Rattle.ids.specs.Flags.{is_reading, is_writing, is_creating, is_exclusive, is_truncating}
-use Rattle.model.specs.Calls.{OpenFlags, Whence, From_start, From_offset, From_end, Call, Open, Close, Read, Pread, Write, Pwrite, Lseek, Ftruncate, Truncate, Stat, Fstat, Link, Unlink, Rename, Mkdir, Rmdir, List_directory, Symlink, Readlink, Lstat, Mknod, Chmod, Chown, Fchmod, Fchown, Dup, Dup2, Open_pipe, Fork, Exit, Done, Descriptor, Count, New_place, Bytes, Slot, own}
-use Rattle.model.specs.Plans.{Change, target_limit, absent, status, is_special, changed, unchanged, slot, slot_at, is_pipe, read_pipe, read_some, place_to_write, write_some, most_moved, offset_named, read_from, write_from, base, sought, replaced_by_name, moved, cut_to, opened, mode, free, first_of_free, duplicated, piped}
+use Rattle.model.specs.Calls.{OpenFlags, Whence, From_start, From_offset, From_end, To_data, To_hole, Space, Grow, Keep, Punch, Exchange, Fallocate, Call, Open, Close, Read, Pread, Write, Pwrite, Lseek, Ftruncate, Truncate, Stat, Fstat, Link, Unlink, Rename, Mkdir, Rmdir, List_directory, Symlink, Readlink, Lstat, Mknod, Chmod, Chown, Fchmod, Fchown, Dup, Dup2, Open_pipe, Fork, Exit, Done, Descriptor, Count, New_place, Bytes, Slot, own}
+use Rattle.model.specs.Plans.{Change, target_limit, absent, status, is_special, changed, unchanged, slot, slot_at, is_pipe, read_pipe, read_some, place_to_write, write_some, most_moved, offset_named, length_named, read_from, write_from, found_from, aimed, sought, spaced, swapped, replaced_by_name, moved, cut_to, opened, mode, free, first_of_free, duplicated, piped, open_limit}
 use Rattle.model.specs.Steps.{reads}
 use Rattle.model.proofs.Laws.{all-append, append-all}
 use Rattle.call_laws.specs.Objects.{IsThere}
@@ -89,8 +90,8 @@ either k true m n h g = h refl
 either k false m n h g = g refl
 
 -- a path asks nothing
-with_path : {A : Type 0} (k : Kernel) (path : List ℕ) (f : List Name → Plan A) → ((names : List Name) → AllLeft k (seen k (f names))) → AllLeft k (seen k (parsed path >>= f))
-with_path {A} k path f h = by_result (path_names path)
+with_path : {A : Type 0} (k : Kernel) (path : List ℕ) (f : List Name → Plan A) → ((names : List Name) → AllLeft k (seen k (f names))) → AllLeft k (seen k (parsed k.bounds.path_bytes path >>= f))
+with_path {A} k path f h = by_result (path_names k.bounds.path_bytes path)
   where
     by_result : (r : Result (List Name) Errno) → AllLeft k (seen k (told r >>= f))
     by_result (Ok names) = h names
@@ -271,32 +272,64 @@ module _ (k : Kernel) (well : WellFormed k) where
       fitting : ℕ
       fitting = answer k (Fit s.inode (length bytes))
 
-  put_seen : (s : Slot) (bytes : List ℕ) (place : ℕ) → Stays k s.inode A_file → AllLeft k (seen k (put_at k.largest s bytes place))
-  put_seen s bytes place n = refusal k (nat_le k.largest place) EFBIG _ (λ _. (n, tt))
+  put_seen : (s : Slot) (bytes : List ℕ) (place : ℕ) → Stays k s.inode A_file → AllLeft k (seen k (put_at k.bounds.file_bytes s bytes place))
+  put_seen s bytes place n = refusal k (nat_le k.bounds.file_bytes place) EFBIG _ (λ _. (n, tt))
 
-  write_seen : (s : Slot) (bytes : List ℕ) → IsOpen k s → AllLeft k (seen k (write_some k.largest s bytes))
-  write_seen s bytes held = either k (is_pipe s.kind) (write_pipe s bytes) (place_to_write s s.appending >>= put_at k.largest s bytes) (λ pipe. pipe_written_seen s bytes (pipe_stays s held pipe))
-      (λ file. seen_bind k (place_to_write s s.appending) (put_at k.largest s bytes) (place_seen s held (open_stays s held file) s.appending) (whatever (given k (place_to_write s s.appending)) (λ place. put_seen s bytes place (open_stays s held file))))
+  write_seen : (s : Slot) (bytes : List ℕ) → IsOpen k s → AllLeft k (seen k (write_some k.bounds.file_bytes s bytes))
+  write_seen s bytes held = either k (is_pipe s.kind) (write_pipe s bytes) (place_to_write s s.appending >>= put_at k.bounds.file_bytes s bytes) (λ pipe. pipe_written_seen s bytes (pipe_stays s held pipe))
+      (λ file. seen_bind k (place_to_write s s.appending) (put_at k.bounds.file_bytes s bytes) (place_seen s held (open_stays s held file) s.appending) (whatever (given k (place_to_write s s.appending)) (λ place. put_seen s bytes place (open_stays s held file))))
 
   read_from_seen : (n offset count : ℕ) → Stays k n A_file → AllLeft k (seen k (read_from n offset count))
   read_from_seen n offset count stays =
       append-all (IsLeft k) (shown (Read_file n offset (min count most_moved)) (answer k (Read_file n offset (min count most_moved)))) [] (stays, each_block n stays _) tt
 
-  write_from_seen : (n offset : ℕ) (bytes : List ℕ) → Stays k n A_file → AllLeft k (seen k (write_from k.largest n offset bytes))
-  write_from_seen n offset bytes stays = refusal k (nat_le k.largest offset) EFBIG _ (λ _. (stays, tt))
+  write_from_seen : (n offset : ℕ) (bytes : List ℕ) → Stays k n A_file → AllLeft k (seen k (write_from k.bounds.file_bytes n offset bytes))
+  write_from_seen n offset bytes stays = refusal k (nat_le k.bounds.file_bytes offset) EFBIG _ (λ _. (stays, tt))
 
   -- an offset that a call names asks nothing
   named_seen : {A : Type 0} (offset : ℤ) (f : ℕ → Plan A) → ((at : ℕ) → AllLeft k (seen k (f at))) → AllLeft k (seen k (or_refuse EINVAL (offset_named offset) >>= f))
   named_seen (pos at) f h = h at
   named_seen (negsuc n) f h = tt
 
-  base_seen : (s : Slot) (whence : Whence) → IsOpen k s → is_pipe s.kind ≡ false → AllLeft k (seen k (base s whence))
-  base_seen s From_start held file = tt
-  base_seen s From_offset held file = (place_stays s held, tt)
-  base_seen s From_end held file = (open_stays s held file, tt)
+  -- and neither does a length
+  long_seen : {A : Type 0} (len : ℤ) (f : ℕ → Plan A) → ((count : ℕ) → AllLeft k (seen k (f count))) → AllLeft k (seen k (or_refuse EINVAL (length_named len) >>= f))
+  long_seen (pos ℕ.zero) f h = tt
+  long_seen (pos (suc more)) f h = h (suc more)
+  long_seen (negsuc more) f h = tt
 
-  sought_seen : (s : Slot) (to : ℤ) → AllLeft k (seen k (sought k.largest s to))
-  sought_seen s (pos place) = refusal k (nat_lt k.largest place) EINVAL (changed (New_place place) (Set_offset s.description place ∷ [])) (λ _. tt)
+  found_seen_from : (holes : Bool) (n from : ℕ) → Stays k n A_file → AllLeft k (seen k (found_from holes n from))
+  found_seen_from holes n from stays =
+      let size : ℕ = answer k (Measure n) in
+      let count : ℕ = suc ((size - 1) / block_length - from / block_length) in
+      let passed : ℕ = answer k (Pass_blocks (not holes) n (from / block_length) count) in (
+        stays,
+        refusal k (nat_le size from) ENXIO _ (λ _.
+            append-all (IsLeft k) (shown (Pass_blocks (not holes) n (from / block_length) count) passed) (seen k (refuse_if (not holes && nat_le size (behind_blocks from passed)) ENXIO >> Give (min size (behind_blocks from passed))))
+            (each_block n stays (rising (from / block_length) (min count (suc passed))))
+            (refusal k (not holes && nat_le size (behind_blocks from passed)) ENXIO (Give (min size (behind_blocks from passed))) (λ _. tt))),
+      )
+
+  sought_from_seen : (holes : Bool) (n : ℕ) (move : ℤ) → Stays k n A_file → AllLeft k (seen k (or_refuse ENXIO (offset_named move) >>= (λ from. found_from holes n from >>= (λ place. Give (pos place)))))
+  sought_from_seen holes n (pos from) stays = seen_bind k (found_from holes n from) (λ place. Give (pos place)) (found_seen_from holes n from stays) (whatever (given k (found_from holes n from)) (λ _. tt))
+  sought_from_seen holes n (negsuc from) stays = tt
+
+  aimed_seen : (s : Slot) (move : ℤ) (whence : Whence) → IsOpen k s → is_pipe s.kind ≡ false → AllLeft k (seen k (aimed s move whence))
+  aimed_seen s move From_start held file = tt
+  aimed_seen s move From_offset held file = (place_stays s held, tt)
+  aimed_seen s move From_end held file = (open_stays s held file, tt)
+  aimed_seen s move To_data held file = sought_from_seen false s.inode move (open_stays s held file)
+  aimed_seen s move To_hole held file = sought_from_seen true s.inode move (open_stays s held file)
+
+  spaced_seen : (n at count : ℕ) (space : Space) → Stays k n A_file → AllLeft k (seen k (spaced n at count space))
+  spaced_seen n at count Grow stays = (stays, tt)
+  spaced_seen n at count Keep stays = tt
+  spaced_seen n at count Punch stays = (stays, tt)
+
+  swapped_seen : (at : Last) (what : Place) (onto : Last) (other : Place) → AllLeft k (seen k (swapped at what onto other))
+  swapped_seen at what onto other = either k (what.0 == other.0) (unchanged Done) (changed Done (Swap at.parent at.name what.0 onto.parent onto.name other.0 ∷ [])) (λ _. tt) (λ _. tt)
+
+  sought_seen : (s : Slot) (to : ℤ) → AllLeft k (seen k (sought k.bounds.file_bytes s to))
+  sought_seen s (pos place) = refusal k (nat_lt k.bounds.file_bytes place) EINVAL (changed (New_place place) (Set_offset s.description place ∷ [])) (λ _. tt)
   sought_seen s (negsuc place) = tt
 
   -- what asks nothing
@@ -335,13 +368,15 @@ calls_see k pid (Close f) well = with_slot k well pid (Close f) f _ (λ s held. 
 calls_see k pid (Read f count) well = with_slot k well pid (Read f count) f _ (λ s held. refusal k (not s.reading) EBADF _ (λ _. either k (count == 0) (unchanged (Bytes [])) (read_some s count) (λ _. tt) (λ _. read_seen k well s count held)))
 calls_see k pid (Pread f count offset) well = with_slot k well pid (Pread f count offset) f _ (λ s held. refusal k (not s.reading) EBADF _ (λ _. refusal k (is_pipe s.kind) ESPIPE _ (λ file. named_seen k well offset _ (λ at.
     either k (count == 0) (unchanged (Bytes [])) (read_from s.inode at count) (λ _. tt) (λ _. read_from_seen k well s.inode at count (open_stays k well s held file))))))
-calls_see k pid (Write f bytes) well = with_slot k well pid (Write f bytes) f _ (λ s held. refusal k (not s.writing) EBADF _ (λ _. either k (is_empty bytes) (unchanged (Count 0)) (write_some k.largest s bytes) (λ _. tt) (λ _. write_seen k well s bytes held)))
+calls_see k pid (Write f bytes) well = with_slot k well pid (Write f bytes) f _ (λ s held. refusal k (not s.writing) EBADF _ (λ _. either k (is_empty bytes) (unchanged (Count 0)) (write_some k.bounds.file_bytes s bytes) (λ _. tt) (λ _. write_seen k well s bytes held)))
 calls_see k pid (Pwrite f bytes offset) well = with_slot k well pid (Pwrite f bytes offset) f _ (λ s held. refusal k (not s.writing) EBADF _ (λ _. refusal k (is_pipe s.kind) ESPIPE _ (λ file. named_seen k well offset _ (λ at.
-    either k (is_empty bytes) (unchanged (Count 0)) (write_from k.largest s.inode at bytes) (λ _. tt) (λ _. write_from_seen k well s.inode at bytes (open_stays k well s held file))))))
+    either k (is_empty bytes) (unchanged (Count 0)) (write_from k.bounds.file_bytes s.inode at bytes) (λ _. tt) (λ _. write_from_seen k well s.inode at bytes (open_stays k well s held file))))))
 calls_see k pid (Lseek f move whence) well = with_slot k well pid (Lseek f move whence) f _ (λ s held. refusal k (is_pipe s.kind) ESPIPE _ (λ file.
-    seen_bind k (base s whence) _ (base_seen k well s whence held file) (whatever (given k (base s whence)) (λ place. sought_seen k well s (pos place +ℤ move)))))
-calls_see k pid (Ftruncate f len) well = with_slot k well pid (Ftruncate f len) f _ (λ s held. refusal k (not s.writing) EBADF _ (λ _. refusal k (is_pipe s.kind) EINVAL _ (λ file. refusal k (nat_lt k.largest len) EFBIG _ (λ _. (open_stays k well s held file, tt)))))
-calls_see k pid (Truncate path len) well = with_path k path _ (λ names. with_walk k well names _ (λ place r. refusal k (is_directory place) EISDIR _ (λ file. refusal k (is_link place) ELOOP _ (λ no_link. refusal k (is_special place) EINVAL _ (λ plain. refusal k (nat_lt k.largest len) EFBIG _ (λ _. (file_stays k well place r file no_link plain, tt)))))))
+    seen_bind k (aimed s move whence) _ (aimed_seen k well s move whence held file) (whatever (given k (aimed s move whence)) (λ sum. sought_seen k well s sum))))
+calls_see k pid (Fallocate f offset len space) well = with_slot k well pid (Fallocate f offset len space) f _ (λ s held. named_seen k well offset _ (λ at. long_seen k well len _ (λ count.
+    refusal k (not s.writing) EBADF _ (λ _. refusal k (is_pipe s.kind) ESPIPE _ (λ file. refusal k (nat_lt k.bounds.file_bytes (at + count)) EFBIG _ (λ _. spaced_seen k well s.inode at count space (open_stays k well s held file)))))))
+calls_see k pid (Ftruncate f len) well = with_slot k well pid (Ftruncate f len) f _ (λ s held. refusal k (not s.writing) EBADF _ (λ _. refusal k (is_pipe s.kind) EINVAL _ (λ file. refusal k (nat_lt k.bounds.file_bytes len) EFBIG _ (λ _. (open_stays k well s held file, tt)))))
+calls_see k pid (Truncate path len) well = with_path k path _ (λ names. with_walk k well names _ (λ place r. refusal k (is_directory place) EISDIR _ (λ file. refusal k (is_link place) ELOOP _ (λ no_link. refusal k (is_special place) EINVAL _ (λ plain. refusal k (nat_lt k.bounds.file_bytes len) EFBIG _ (λ _. (file_stays k well place r file no_link plain, tt)))))))
 calls_see k pid (Stat path) well = with_path k path _ (λ names. with_walk k well names _ (λ place r. refusal k (is_link place) ELOOP _ (λ _. status_seen k well place r.right (rooted_reached k place.0 r.rooted))))
 calls_see k pid (Fstat f) well = with_slot k well pid (Fstat f) f _ (λ s held. status_seen k well (s.inode, s.kind) held.kind held.reached)
 calls_see k pid (Link old path) well = with_path k old _ (λ from. with_path k path _ (λ to. with_walk k well from _ (λ what r. refusal k (is_directory what) EPERM _ (λ _.
@@ -350,6 +385,9 @@ calls_see k pid (Unlink path) well = with_path k path _ (λ names. with_last k w
 calls_see k pid (Rename old path) well = with_path k old _ (λ from. with_path k path _ (λ to. refusal k (is_empty from || is_empty to) EBUSY _ (λ _.
     with_last k well EBUSY from _ (λ at last. with_found k well at last _ (λ what r. refusal k (is_directory what && is_below from to) EINVAL _ (λ _.
     with_last k well EBUSY to _ (λ onto last_onto. moved_seen k well at what onto last_onto onto.found refl))) at.found refl))))
+calls_see k pid (Exchange old path) well = with_path k old _ (λ from. with_path k path _ (λ to. refusal k (is_empty from || is_empty to) EBUSY _ (λ _.
+    with_last k well EBUSY from _ (λ at last. with_last k well EBUSY to _ (λ onto last_onto. with_found k well at last _ (λ what r. with_found k well onto last_onto _ (λ other s.
+    refusal k (is_directory what && is_below from to) EINVAL _ (λ _. refusal k (is_directory other && is_below to from) EINVAL _ (λ _. swapped_seen k well at what onto other))) onto.found refl) at.found refl)))))
 calls_see k pid (Mkdir path) well = with_path k path _ (λ names. with_last k well EEXIST names _ (λ at last. absent_seen k well at.found _))
 calls_see k pid (Rmdir path) well = with_path k path _ (λ names. with_last k well EBUSY names _ (λ at last. with_found k well at last _ (λ place r.
     refusal k (not (is_directory place)) ENOTDIR _ (λ dir. (directory_stays k well place r (not-false (is_directory place) dir), refusal k (not (is_empty (keys (names_of k place.0)))) ENOTEMPTY _ (λ _. tt)))) at.found refl))
@@ -367,7 +405,7 @@ calls_see k pid (Chown path owner) well = with_path k path _ (λ names. with_wal
 calls_see k pid (Fchmod f permissions) well = with_slot k well pid (Fchmod f permissions) f _ (λ s held. (slot_there k well s held, tt))
 calls_see k pid (Fchown f owner) well = with_slot k well pid (Fchown f owner) f _ (λ s held. (slot_there k well s held, tt))
 calls_see k pid (Dup f) well = with_slot k well pid (Dup f) f _ (λ s held. duplicated_seen k well pid (Dup f) s (free (own k pid (Dup f))))
-calls_see k pid (Dup2 f g) well = with_slot k well pid (Dup2 f g) f _ (λ s held. refusal k (nat_lt 63 g) EBADF _ (λ _. either k (f == g) (unchanged (Descriptor f)) _ (λ _. tt) (λ _. tt)))
+calls_see k pid (Dup2 f g) well = with_slot k well pid (Dup2 f g) f _ (λ s held. refusal k (nat_le (open_limit (own k pid (Dup2 f g))) g) EBADF _ (λ _. either k (f == g) (unchanged (Descriptor f)) _ (λ _. tt) (λ _. tt)))
 calls_see k pid Open_pipe well = piped_seen k well pid Open_pipe (free (own k pid Open_pipe))
 calls_see k pid Fork well = refusal k (nat_le 4096 k.made) EAGAIN _ (λ _. tt)
 calls_see k pid Exit well = tt

@@ -1,5 +1,5 @@
 -- The edits of calls on slots and processes fit: close, dup, pipe, fork, exit and open.
-use Rattle.std.proofs.Common.{◌≡◌, ◌≢◌, ℕ, suc, ◌+◌, ◌<◌, ◌≤◌, Bool, true, false, not, ◌&&◌, List, [], ◌∷◌, ◌++◌, get_or, if◌then◌else◌, Option, Some, None, is_some, IfOk, refl, sym, ap, subst, ◌∙◌, arith, nat_lt, nat_le, ltb-false}
+use Rattle.std.proofs.Common.{◌≡◌, ◌≢◌, ℕ, suc, ◌+◌, ◌<◌, ◌≤◌, Bool, true, false, not, ◌&&◌, List, [], ◌∷◌, ◌++◌, get_or, if◌then◌else◌, Option, Some, None, is_some, IfOk, refl, sym, ap, subst, ◌∙◌, arith, nat_le, leb-false}
 use Rattle.std.specs.List.{AllByRecursion}
 use Rattle.model.specs.FiniteMap.{get}
 use Rattle.model.specs.State.{A_file, A_directory, A_pipe, Kernel, File, Process, kind_of, file_of, names_of, entry_of, links, mapped}
@@ -8,11 +8,11 @@ use Rattle.model.specs.Walks.{Place, Last}
 use Rattle.model.specs.Changes.{Mode, There, Made, Make_file, Cut, Open_inode, Share_slot, Clear_slot, End_process, marks, applied, set_inode, set_name, sized}
 use Rattle.ids.specs.Flags.{is_creating, is_exclusive, is_truncating}
 use Rattle.model.specs.Calls.{OpenFlags, Call, Dup2, Fork, Exit, Done, Descriptor, Slot, own}
-use Rattle.model.specs.Plans.{Change, changed, unchanged, slot_at, pipe_in, pipes_in, first_of_free, duplicated, piped, forked, opened, mode, cut_to}
+use Rattle.model.specs.Plans.{Change, open_limit, changed, unchanged, slot_at, pipe_in, pipes_in, first_of_free, duplicated, piped, forked, opened, mode, cut_to}
 use Rattle.model.specs.Steps.{IsNowhere, AllDifferent, CanBeChosen}
 use Rattle.model.proofs.Laws.{append-all}
 use Rattle.call_laws.specs.Objects.{IsThere}
-use Rattle.call_laws.specs.WellFormed.{descriptor_limit, WellFormed}
+use Rattle.call_laws.specs.WellFormed.{most_descriptors, WellFormed}
 use Rattle.call_laws.specs.Fits.{FitsAll, CanShare, IsOpenSlot, IsAlive, ListsPipe, table_of}
 use Rattle.call_laws.proofs.Maps.{not_none, some_same}
 use Rattle.call_laws.proofs.edits.Names.{has_names, named_counted}
@@ -44,17 +44,17 @@ module _ (k : Kernel) (well : WellFormed k) (pid : ℕ) (alive : IsAlive k pid) 
   held_number : (f : ℕ) (s : Slot) (held : Held k pid f s) → s.description ≡ held.description
   held_number f s held = ap (λ s. s.description) held.slot ∙ number_in_slot k held.description (get k.descriptions held.description)
 
-  share_at : (f g : ℕ) (s : Slot) (pipes : List ℕ) → Held k pid f s → g < descriptor_limit → ListsPipe k pipes s.description → ((e : ℕ) → get (table_of k pid) g ≡ Some e → ListsPipe k pipes e) → CanShare k pid g s.description pipes
+  share_at : (f g : ℕ) (s : Slot) (pipes : List ℕ) → Held k pid f s → g < most_descriptors k → ListsPipe k pipes s.description → ((e : ℕ) → get (table_of k pid) g ≡ Some e → ListsPipe k pipes e) → CanShare k pid g s.description pipes
   share_at f g s pipes held low comes goes = record { alive = alive; from = f; held = held.gives ∙ ap Some (sym (held_number f s held)); low = low; comes = comes; goes = goes }
 
   listed_here : (f : ℕ) (s : Slot) → Held k pid f s → ListsPipe k (pipe_in (Some s)) s.description
   listed_here f s held = slot_listed f s held s.description (held.gives ∙ ap Some (sym (held_number f s held)))
 
-  pub dup_with : (f : ℕ) (call : Call) (s : Slot) → Held k pid f s → (gs : List ℕ) → AllByRecursion (IsFreeIn (own k pid call).table 0 64) gs → IfOk (given k (duplicated (own k pid call) s gs)) Fine
+  pub dup_with : (f : ℕ) (call : Call) (s : Slot) → Held k pid f s → (gs : List ℕ) → AllByRecursion (IsFreeIn (own k pid call).table 0 (open_limit (own k pid call))) gs → IfOk (given k (duplicated (own k pid call) s gs)) Fine
   dup_with f call s held [] h = tt
   dup_with f call s held (g ∷ gs) h =
-      let low : g < 0 + 64 = h.0.2 in record {
-        fits = λ can. (share_at f g s (pipe_in (Some s)) held (omega arith) (listed_here f s held) (λ e gives. absurd (not_none e (sym gives ∙ free_slot k pid call 0 64 g h.0))), tt);
+      let low : g < 0 + open_limit (own k pid call) = h.0.2 in record {
+        fits = λ can. (share_at f g s (pipe_in (Some s)) held (omega arith) (listed_here f s held) (λ e gives. absurd (not_none e (sym gives ∙ free_slot k pid call 0 (open_limit (own k pid call)) g h.0))), tt);
         by = (refl, tt);
         there = ends_there k (pipe_in (Some s)) (held_pipes f s held);
       }
@@ -63,12 +63,12 @@ module _ (k : Kernel) (well : WellFormed k) (pid : ℕ) (alive : IsAlive k pid) 
   listed_there : (call : Call) (g e : ℕ) → get (table_of k pid) g ≡ Some e → ListsPipe k (pipe_in (slot_at (own k pid call) g)) e
   listed_there call g e gives = subst (λ o. ListsPipe k (pipe_in o) e) (sym (slot_at_is k pid call g ∙ ap (mapped (slot_in k)) gives)) (pipe_listed k e)
 
-  pub dup2_at : (f g : ℕ) (s : Slot) → Held k pid f s → (b : Bool) → nat_lt 63 g ≡ b → (c : Bool)
+  pub dup2_at : (f g : ℕ) (s : Slot) → Held k pid f s → (b : Bool) → nat_le (open_limit (own k pid (Dup2 f g))) g ≡ b → (c : Bool)
       → IfOk (given k (refuse_if b EBADF >> (if c then unchanged (Descriptor f) else changed (Descriptor g) (Share_slot pid g s.description (pipe_in (Some s) ++ pipe_in (slot_at (own k pid (Dup2 f g)) g)) ∷ [])))) Fine
   dup2_at f g s held true is c = tt
   dup2_at f g s held false is true = unchanged_fits k pid inside chosen (Descriptor f)
   dup2_at f g s held false is false =
-      let high : g ≤ 63 = ltb-false 63 g is in
+      let low : g < open_limit (own k pid (Dup2 f g)) = leb-false (open_limit (own k pid (Dup2 f g))) g is in
       let others : List ℕ = pipe_in (slot_at (own k pid (Dup2 f g)) g) in record {
         fits = λ can. (
           share_at f g s (pipe_in (Some s) ++ others) held (omega arith)
@@ -81,10 +81,10 @@ module _ (k : Kernel) (well : WellFormed k) (pid : ℕ) (alive : IsAlive k pid) 
       }
 
   -- a free slot, as an edit asks for it
-  open_slot : (call : Call) (f : ℕ) → IsFreeIn (own k pid call).table 0 64 f → IsOpenSlot k pid f
-  open_slot call f h = let low : f < 0 + 64 = h.2 in record { alive = alive; free = free_slot k pid call 0 64 f h; low = omega arith }
+  open_slot : (call : Call) (f : ℕ) → IsFreeIn (own k pid call).table 0 (open_limit (own k pid call)) f → IsOpenSlot k pid f
+  open_slot call f h = let low : f < 0 + open_limit (own k pid call) = h.2 in record { alive = alive; free = free_slot k pid call 0 (open_limit (own k pid call)) f h; low = omega arith }
 
-  pub pipe_with : (call : Call) (fs : List ℕ) → AllByRecursion (IsFreeIn (own k pid call).table 0 64) fs → AllDifferent fs → IfOk (given k (piped (own k pid call) fs)) Fine
+  pub pipe_with : (call : Call) (fs : List ℕ) → AllByRecursion (IsFreeIn (own k pid call).table 0 (open_limit (own k pid call))) fs → AllDifferent fs → IfOk (given k (piped (own k pid call) fs)) Fine
   pipe_with call [] h different = tt
   pipe_with call (f ∷ []) h different = tt
   pipe_with call (f ∷ g ∷ fs) h different = record {
@@ -130,7 +130,7 @@ module _ (k : Kernel) (well : WellFormed k) (pid : ℕ) (alive : IsAlive k pid) 
   }
 
   -- a file that open makes
-  open_new : (call : Call) (how : Mode) (f : ℕ) (at : Last) → IsFreeIn (own k pid call).table 0 64 f → IsLast k at → entry_of k at.parent at.name ≡ None
+  open_new : (call : Call) (how : Mode) (f : ℕ) (at : Last) → IsFreeIn (own k pid call).table 0 (open_limit (own k pid call)) f → IsLast k at → entry_of k at.parent at.name ≡ None
       → Fine (record { reply = Descriptor f; edits = Make_file at.parent at.name 0 ∷ Open_inode 1 (Made 0) how pid f ∷ [] })
   unfolding applied
   open_new call how f at is_free last none = record { fits = both; by = (tt, (refl, tt)); there = (last.parent.directory, tt) }
@@ -159,7 +159,7 @@ module _ (k : Kernel) (well : WellFormed k) (pid : ℕ) (alive : IsAlive k pid) 
           )
 
   -- a file that is there, cut first where the flags say so
-  open_old : (call : Call) (how : Mode) (f n : ℕ) → IsFreeIn (own k pid call).table 0 64 f → kind_of k n ≡ Some A_file → links k n ≢ 0
+  open_old : (call : Call) (how : Mode) (f n : ℕ) → IsFreeIn (own k pid call).table 0 (open_limit (own k pid call)) f → kind_of k n ≡ Some A_file → links k n ≢ 0
       → (b : Bool) → IfOk (given k ((if b then cut_to n 0 else Give []) >>= (λ cut. changed (Descriptor f) (cut ++ Open_inode 0 (There n) how pid f ∷ [])))) Fine
   unfolding applied
   open_old call how f n is_free is named false = record {
@@ -197,7 +197,7 @@ module _ (k : Kernel) (well : WellFormed k) (pid : ℕ) (alive : IsAlive k pid) 
         there = append-all (IsThere k) (marks (Cut n (answer k (Measure n)) 0)) [] (cut_there k well pid alive inside chosen n (answer k (Measure n)) 0 is) tt;
       }
 
-  pub open_at_last : (call : Call) (flags : OpenFlags) (f : ℕ) (at : Last) → IsFreeIn (own k pid call).table 0 64 f → IsLast k at
+  pub open_at_last : (call : Call) (flags : OpenFlags) (f : ℕ) (at : Last) → IsFreeIn (own k pid call).table 0 (open_limit (own k pid call)) f → IsLast k at
       → (o : Option Place) → at.found ≡ o → IfOk (given k (opened (own k pid call) flags f at o)) Fine
   open_at_last call flags f at is_free last None e = allowed k Fine (not (is_creating flags)) ENOENT _ (λ _. open_new call (mode flags) f at is_free last (sym last.found ∙ e))
   open_at_last call flags f at is_free last (Some what) e =

@@ -1,5 +1,5 @@
 -- Bytes written into a file, read by place, and the blocks that stay alike.
-use Rattle.std.proofs.Common.{◌≡◌, ◌≢◌, ℕ, ◌+◌, ◌-◌, ◌/◌, ◌<◌, ◌≤◌, max, List, ◌++◌, length, get_or, Some, refl, sym, ap, subst, ◌∙◌, arith, inl, inr}
+use Rattle.std.proofs.Common.{◌≡◌, ◌≢◌, ℕ, ◌+◌, ◌-◌, ◌/◌, ◌<◌, ◌≤◌, max, List, ◌++◌, length, get_or, replicate, Some, refl, sym, ap, subst, ◌∙◌, arith, inl, inr}
 use Rattle.std.proofs.lemmas.Bool.{cases_eq, cases_lt}
 use Rattle.std.proofs.lemmas.List.{get_or_past}
 use Rattle.model.specs.FiniteMap.{get, keys}
@@ -31,8 +31,8 @@ other_block old bytes place block away i is =
       ]
     ]
 
--- Two states stay alike where a file gets new bytes in both, as many, and its blocks stay alike.
-pub file_keeps : (now later : Kernel) (n : ℕ) (new other : List ℕ) → kind_of now n ≡ Some A_file → kind_of later n ≡ Some A_file → length other ≡ length new
+-- Two states stay alike where a file gets new bytes in both, as many where it had as many, and its blocks stay alike.
+pub file_keeps : (now later : Kernel) (n : ℕ) (new other : List ℕ) → kind_of now n ≡ Some A_file → kind_of later n ≡ Some A_file → (length (file_of later n) ≡ length (file_of now n) → length other ≡ length new)
     → ((block : ℕ) → SameBlock block (file_of later n) (file_of now n) → SameBlock block other new)
     → (a : Aspect) → Keeps now later a → Keeps (set_inode n (File new) now) (set_inode n (File other) later) a
 unfolding ends
@@ -67,7 +67,7 @@ file_keeps now later n new other e f long blocks a = by_aspect a
     by_aspect (Front q) h = (h.0, pipes_two q ∙ h.1 ∙ ap (λ b. b ++ h.0) (sym (pipes_one q)))
     by_aspect (Back q) h = (h.0, pipes_one q ∙ h.1 ∙ ap (λ b. h.0 ++ b) (sym (pipes_two q)))
     by_aspect (Size m) h = elim (cases_eq m n) [
-      | inl is ↦ ap length (here_by file_of_inode later n (File other) m is) ∙ long ∙ sym (ap length (here_by file_of_inode now n (File new) m is))
+      | inl is ↦ ap length (here_by file_of_inode later n (File other) m is) ∙ long (subst (λ m. length (file_of later m) ≡ length (file_of now m)) is h) ∙ sym (ap length (here_by file_of_inode now n (File new) m is))
       | inr away ↦ ap length (there_by file_of_inode later n (File other) m away) ∙ h ∙ ap length (sym (there_by file_of_inode now n (File new) m away))
     ]
     by_aspect (Block m block) h = elim (cases_eq m n) [
@@ -81,8 +81,15 @@ file_keeps now later n new other e f long blocks a = by_aspect a
 pub put_keeps : (now later : Kernel) (n place : ℕ) (bytes : List ℕ) → kind_of now n ≡ Some A_file → kind_of later n ≡ Some A_file → length (file_of later n) ≡ length (file_of now n)
     → (a : Aspect) → Keeps now later a → Keeps (set_inode n (File (written (file_of now n) place bytes)) now) (set_inode n (File (written (file_of later n) place bytes)) later) a
 put_keeps now later n place bytes e f long = file_keeps now later n (written (file_of now n) place bytes) (written (file_of later n) place bytes) e f
-    (length-written (file_of later n) place bytes ∙ ap (λ len. max len (place + length bytes)) long ∙ sym (length-written (file_of now n) place bytes))
+    (λ _. length-written (file_of later n) place bytes ∙ ap (λ len. max len (place + length bytes)) long ∙ sym (length-written (file_of now n) place bytes))
     (same_block (file_of now n) (file_of later n) bytes place)
+
+-- bytes of both that become zero, within the file
+pub wipe_keeps : (now later : Kernel) (n place count : ℕ) → kind_of now n ≡ Some A_file → kind_of later n ≡ Some A_file → (a : Aspect) → Keeps now later a
+    → Keeps (set_inode n (File (written (file_of now n) place (replicate count 0))) now) (set_inode n (File (written (file_of later n) place (replicate count 0))) later) a
+wipe_keeps now later n place count e f = file_keeps now later n (written (file_of now n) place (replicate count 0)) (written (file_of later n) place (replicate count 0)) e f
+    (λ long. length-written (file_of later n) place (replicate count 0) ∙ ap (λ len. max len (place + length (replicate {A = ℕ} count 0))) long ∙ sym (length-written (file_of now n) place (replicate count 0)))
+    (same_block (file_of now n) (file_of later n) (replicate count 0) place)
 
 -- past the end of what was cut
 pub cut_past : (len : ℕ) (old : List ℕ) (i : ℕ) → len ≤ i → get_or (sized len old) i 0 ≡ 0
@@ -98,5 +105,5 @@ same_cut xs ys len block h i is =
 pub cut_keeps : (now later : Kernel) (n len : ℕ) → kind_of now n ≡ Some A_file → kind_of later n ≡ Some A_file
     → (a : Aspect) → Keeps now later a → Keeps (set_inode n (File (sized len (file_of now n))) now) (set_inode n (File (sized len (file_of later n))) later) a
 cut_keeps now later n len e f = file_keeps now later n (sized len (file_of now n)) (sized len (file_of later n)) e f
-    (length-sized len (file_of later n) ∙ sym (length-sized len (file_of now n)))
+    (λ _. length-sized len (file_of later n) ∙ sym (length-sized len (file_of now n)))
     (same_cut (file_of now n) (file_of later n) len)

@@ -1,16 +1,16 @@
 -- A change of names or contents changes only what it marks.
-use Rattle.std.proofs.Common.{◌≡◌, ◌≢◌, ℕ, ◌+◌, ◌-◌, ◌/◌, ◌≤◌, Bool, true, false, cond, List, [], ◌∷◌, ◌++◌, map, length, get_or, max, Option, Some, None, ◌==◌, nat_lt, if◌then◌else◌, refl, sym, ap, ap₂, subst, ◌∙◌, inl, inr, arith, append-nil, append_assoc, ne_eqb, eqb→eq, T, ltb-false}
+use Rattle.std.proofs.Common.{◌≡◌, ◌≢◌, ℕ, ◌+◌, ◌-◌, ◌/◌, ◌≤◌, Bool, true, false, cond, List, [], ◌∷◌, ◌++◌, map, length, get_or, max, replicate, Option, Some, None, ◌==◌, nat_lt, if◌then◌else◌, refl, sym, ap, ap₂, subst, ◌∙◌, inl, inr, arith, append-nil, append_assoc, ne_eqb, eqb→eq, T, ltb-false}
 use Rattle.std.specs.Prelude.{⊤}
 use Rattle.std.specs.Ordering.{eq_by_cmp}
 use Rattle.std.specs.List.{AllByRecursion}
 use Rattle.model.specs.FiniteMap.{FinMap, get, keys, insert, remove, get-remove}
 use Rattle.std.specs.Cmp.Lexicographic.{nat_list_cmp_total}
 use Rattle.std.proofs.lemmas.Bool.{cases_eq, cases_lt, false_from_ne_true}
-use Rattle.std.proofs.lemmas.List.{get_or_past}
+use Rattle.std.proofs.lemmas.List.{get_or_past, length-replicate}
 use Rattle.model.specs.State.{Name, name_cmp, Kind, A_file, A_directory, A_pipe, A_link, A_fifo, A_socket, Kernel, Inode, File, Directory, Pipe, kind, mapped, names_of, file_of, pipe_of, target_of, kind_of, entry_of, links, ends, file_of_inode, pipe_of_inode, target_of_inode, rights_or}
 use Rattle.model.specs.Aspects.{Aspect, Entry, Names, Size, Block, Links, Ends, Offset, Front, Back, Target, Rights, SameBlock, Keeps}
 use Rattle.model.specs.Plan.{blocks}
-use Rattle.model.specs.Changes.{Put_bytes, Cut, marks, set_inode, set_name, clear_name, sized, written, file_replaced}
+use Rattle.model.specs.Changes.{Put_bytes, Wipe, Cut, marks, set_inode, set_name, clear_name, sized, written, file_replaced}
 use Rattle.model.specs.Changes.{Replaced, Over_nothing, Over_file, Over_directory}
 use Rattle.model.specs.Steps.{IsNowhere}
 use Rattle.call_laws.specs.Objects.{IsThere, LeavesAlone}
@@ -281,6 +281,17 @@ put_marks k n place bytes before is long a alone =
     omega arith)
     (λ block e. other_block (file_of k n) bytes place block (λ i low at.
     in_blocks (λ b. Block n b ≢ a) place (length bytes) each i low (ap (Block n) at ∙ sym e)))
+
+pub wipe_marks : (k : Kernel) (n place count : ℕ) → kind_of k n ≡ Some A_file → place + count ≤ length (file_of k n) → (a : Aspect) → AllByRecursion (λ w. LeavesAlone w a) (marks (Wipe n place count)) → Keeps k (set_inode n (File (written (file_of k n) place (replicate count 0))) k) a
+wipe_marks k n place count is within a alone =
+    let many : length (replicate {A = ℕ} count 0) ≡ count = length-replicate {A = ℕ} count 0 in
+    let each = all-map (λ w. LeavesAlone w a) (Block n) (blocks place count) alone in
+    file_marks k n (written (file_of k n) place (replicate count 0)) is a
+    (λ e.
+    let new : length (written (file_of k n) place (replicate count 0)) ≡ max (length (file_of k n)) (place + length (replicate {A = ℕ} count 0)) = length-written (file_of k n) place (replicate count 0) in
+    omega arith)
+    (λ block e. other_block (file_of k n) (replicate count 0) place block (λ i low at.
+    in_blocks (λ b. Block n b ≢ a) place count each i (omega (arith, many)) (ap (Block n) at ∙ sym e)))
 
 pub cut_marks : (k : Kernel) (n before after : ℕ) → kind_of k n ≡ Some A_file → length (file_of k n) ≡ before → (a : Aspect) → AllByRecursion (λ w. LeavesAlone w a) (marks (Cut n before after)) → Keeps k (set_inode n (File (sized after (file_of k n))) k) a
 cut_marks k n before after is long a alone =

@@ -68,7 +68,7 @@ left_by_test : (b : Bool) (m : ℕ) (o : Option ℕ) → cond b None o ≡ Some 
 left_by_test true m o e = absurd cc
 left_by_test false m o e = e
 
-set_gives : (P : Type 0) (k : Kernel) (d : ℕ) (x : Name) (n : ℕ) → kind_of k d ≡ Some A_directory → (t : ℕ) (y : Name) (m : ℕ) → (t ≡ d → n ≡ m → P) → (get (names_of k t) y ≡ Some m → P) → get (names_of (set_name d x n k) t) y ≡ Some m → P
+pub set_gives : (P : Type 0) (k : Kernel) (d : ℕ) (x : Name) (n : ℕ) → kind_of k d ≡ Some A_directory → (t : ℕ) (y : Name) (m : ℕ) → (t ≡ d → n ≡ m → P) → (get (names_of k t) y ≡ Some m → P) → get (names_of (set_name d x n k) t) y ≡ Some m → P
 set_gives P k d x n is t y m f g e =
     elim (cases_eq t d) [
       | inl same ↦ given_by_test P (eq_by_cmp name_cmp y x) n m (get (names_of k d) y) (f same) (λ old. g (ap (λ t. get (names_of k t) y) same ∙ old))

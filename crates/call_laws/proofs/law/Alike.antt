@@ -2,10 +2,11 @@
 use Rattle.std.proofs.Common.{◌≡◌, ℕ, List, [], refl, sym, subst, ◌∙◌}
 use Rattle.model.specs.FiniteMap.{empty}
 use Rattle.model.specs.State.{A_directory, Kernel, File, Directory, Fixed}
-use Rattle.model.specs.Changes.{Edit, Make_directory, Make_file, Make_fixed, Name_file, Unname_file, Unname_directory, Move, Put_bytes, Cut, Take, Append, Set_offset, Set_rights, Open_inode, Make_pipe, Share_slot, Clear_slot, New_process, End_process, applied, process_of, with_slot, without_slot}
+use Rattle.model.specs.Changes.{Edit, Make_directory, Make_file, Make_fixed, Name_file, Unname_file, Unname_directory, Move, Swap, Put_bytes, Wipe, Cut, Take, Append, Set_offset, Set_rights, Open_inode, Make_pipe, Share_slot, Clear_slot, New_process, End_process, applied, process_of, with_slot, without_slot}
 use Rattle.call_laws.specs.Fits.{table_of, OwnAlike, EditKeeps}
 use Rattle.call_laws.proofs.edits.Contents.{take_keeps, append_keeps}
-use Rattle.call_laws.proofs.edits.Blocks.{put_keeps, cut_keeps}
+use Rattle.call_laws.proofs.edits.Blocks.{put_keeps, wipe_keeps, cut_keeps}
+use Rattle.call_laws.proofs.edits.Swapped.{swapped_keeps}
 use Rattle.call_laws.proofs.edits.Offsets.{offset_keeps}
 use Rattle.call_laws.proofs.edits.Rights.{rights_keep}
 use Rattle.call_laws.proofs.edits.NamesAlike.{is_new, kept_kind, made_keeps, named_keeps, unnamed_keeps, moved_keeps, same_kind}
@@ -27,7 +28,10 @@ edit_keeps chosen now later (Unname_file d x n) pid inside by own f g same marke
 edit_keeps chosen now later (Unname_directory d x n) pid inside by own f g same marked = unnamed_keeps now later d x f.0.parent.directory g.0.parent.directory marked.0
 edit_keeps chosen now later (Move d x e y n replaced) pid inside by own f g same marked =
     moved_keeps now later d x e y n f.from.parent.directory g.from.parent.directory f.onto.directory g.onto.directory (same_kind now later d x n f.from.gives g.from.gives marked.0) marked.0 marked.1.0
+edit_keeps chosen now later (Swap d x n e y m) pid inside by own f g same marked =
+    swapped_keeps now later d x n e y m f.first.parent.directory g.first.parent.directory f.second.parent.directory g.second.parent.directory (same_kind now later d x n f.first.gives g.first.gives marked.0) (same_kind now later e y m f.second.gives g.second.gives marked.1.0) marked.0 marked.1.0
 edit_keeps chosen now later (Put_bytes n place bytes before) pid inside by own f g same marked = put_keeps now later n place bytes f.0 g.0 (g.1 ∙ sym f.1)
+edit_keeps chosen now later (Wipe n place count) pid inside by own f g same marked = wipe_keeps now later n place count f.0 g.0
 edit_keeps chosen now later (Cut n before after) pid inside by own f g same marked = cut_keeps now later n after f.0 g.0
 edit_keeps chosen now later (Take p count) pid inside by own f g same marked = take_keeps now later p count f.0 g.0 f.1 marked.0
 edit_keeps chosen now later (Append p bytes) pid inside by own f g same marked = append_keeps now later p bytes f.0 g.0 marked.0

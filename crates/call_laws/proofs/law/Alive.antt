@@ -3,7 +3,7 @@ use Rattle.std.proofs.Common.{◌≡◌, ◌≢◌, ◌⊎◌, ℕ, Bool, true, 
 use Rattle.std.specs.List.{AllByRecursion}
 use Rattle.model.specs.FiniteMap.{insert}
 use Rattle.model.specs.State.{Kernel}
-use Rattle.model.specs.Changes.{Edit, Make_directory, Make_file, Make_fixed, Name_file, Unname_file, Unname_directory, Move, Put_bytes, Cut, Take, Append, Set_offset, Set_rights, Open_inode, Make_pipe, Share_slot, Clear_slot, New_process, End_process, applied, all_applied, tidy}
+use Rattle.model.specs.Changes.{Edit, Make_directory, Make_file, Make_fixed, Name_file, Unname_file, Unname_directory, Move, Swap, Put_bytes, Wipe, Cut, Take, Append, Set_offset, Set_rights, Open_inode, Make_pipe, Share_slot, Clear_slot, New_process, End_process, applied, all_applied, tidy}
 use Rattle.model.specs.Moments.{is_alive}
 use Rattle.call_laws.specs.Fits.{Fits, FitsAll, IsBy, IsAlive}
 use Rattle.call_laws.proofs.Maps.{true_is_false, stays_inserted, removed_other}
@@ -18,7 +18,9 @@ alive_stays chosen k (Name_file d x n) pid inside q by other f alive = alive
 alive_stays chosen k (Unname_file d x n) pid inside q by other f alive = alive
 alive_stays chosen k (Unname_directory d x n) pid inside q by other f alive = alive
 alive_stays chosen k (Move d x e y n replaced) pid inside q by other f alive = alive
+alive_stays chosen k (Swap d x n e y m) pid inside q by other f alive = alive
 alive_stays chosen k (Put_bytes n place bytes before) pid inside q by other f alive = alive
+alive_stays chosen k (Wipe n place count) pid inside q by other f alive = alive
 alive_stays chosen k (Cut n before after) pid inside q by other f alive = alive
 alive_stays chosen k (Take p count) pid inside q by other f alive = alive
 alive_stays chosen k (Append p bytes) pid inside q by other f alive = alive

@@ -5,7 +5,7 @@ use Rattle.std.proofs.lemmas.List.{take-append-drop}
 use Rattle.model.specs.FiniteMap.{get, empty, insert, remove, get-empty}
 use Rattle.model.specs.State.{A_file, A_pipe, Kernel, File, Directory, Fixed, kind_of, pipe_of, links}
 use Rattle.model.specs.Aspects.{Links, Ends}
-use Rattle.model.specs.Changes.{Edit, Make_directory, Make_file, Make_fixed, Name_file, Unname_file, Unname_directory, Move, Put_bytes, Cut, Take, Append, Set_offset, Set_rights, Open_inode, Make_pipe, Share_slot, Clear_slot, New_process, End_process, applied, process_of, set_name, clear_name, with_slot, without_slot}
+use Rattle.model.specs.Changes.{Edit, Make_directory, Make_file, Make_fixed, Name_file, Unname_file, Unname_directory, Move, Swap, Put_bytes, Wipe, Cut, Take, Append, Set_offset, Set_rights, Open_inode, Make_pipe, Share_slot, Clear_slot, New_process, End_process, applied, process_of, set_name, clear_name, with_slot, without_slot}
 use Rattle.call_laws.specs.Objects.{IsThere, LeavesAlone}
 use Rattle.call_laws.specs.Fits.{table_of, EditMarks}
 use Rattle.model.proofs.Laws.{weight}
@@ -15,7 +15,8 @@ use Rattle.call_laws.proofs.edits.Rights.{rights_mark}
 use Rattle.call_laws.proofs.edits.NamesAlike.{is_new}
 use Rattle.call_laws.proofs.edits.Processes.{table_in}
 use Rattle.call_laws.proofs.edits.Ends.{end_count, held, held-insert, held-remove, held-none}
-use Rattle.call_laws.proofs.edits.InodeMarks.{made_marks, named_mark, unnamed_mark, for_links, same_when_named, same_when_unnamed, linked_is_other, moved_marks, still_gives, other_old, put_marks, cut_marks, pipe_marks}
+use Rattle.call_laws.proofs.edits.InodeMarks.{made_marks, named_mark, unnamed_mark, for_links, same_when_named, same_when_unnamed, linked_is_other, moved_marks, still_gives, other_old, put_marks, wipe_marks, cut_marks, pipe_marks}
+use Rattle.call_laws.proofs.edits.Swapped.{swapped_marks}
 use Rattle.call_laws.proofs.edits.SlotMarks.{open_marks, offset_apart, made_pipe_marks, no_end, not_marked, process_marks, end_marks, slot_counts}
 
 pub edit_marks : (chosen : List ℕ) (k : Kernel) (e : Edit) → EditMarks chosen k e
@@ -31,7 +32,9 @@ edit_marks chosen k (Unname_directory d x n) f a there alone = unnamed_mark k d 
     (for_links a (λ m. links (clear_name d x k) m ≡ links k m) (λ m e. same_when_unnamed k d x n m f.0.parent.directory f.0.gives (linked_is_other k n m f.0.kind (subst (IsThere k) e there)))) alone.0
 edit_marks chosen k (Move d x e y n replaced) f a there alone = moved_marks k d x e y n f.old replaced f.from.parent.directory f.onto.directory f.from.gives
     (still_gives k d x e y n f.old f.from.parent.directory f.from.gives f.gives (other_old k n f.old replaced f.replaces)) f.replaces a there alone.0 alone.1.0 alone.1.1
+edit_marks chosen k (Swap d x n e y m) f a there alone = swapped_marks k d x n e y m f.first.parent.directory f.second.parent.directory f.first.gives f.second.gives f.apart a alone.0 alone.1.0
 edit_marks chosen k (Put_bytes n place bytes before) f a there alone = put_marks k n place bytes before f.0 f.1 a alone
+edit_marks chosen k (Wipe n place count) f a there alone = wipe_marks k n place count f.0 f.1 a alone
 edit_marks chosen k (Cut n before after) f a there alone = cut_marks k n before after f.0 f.1 a alone
 edit_marks chosen k (Take p count) f a there alone = pipe_marks k p (drop count (pipe_of k p)) f.0 a (λ e. absurd (alone.0 (sym e))) (λ e. (take count (pipe_of k p), sym (take-append-drop count (pipe_of k p))))
 edit_marks chosen k (Append p bytes) f a there alone = pipe_marks k p (pipe_of k p ++ bytes) f.0 a (λ e. (bytes, refl)) (λ e. absurd (alone.0 (sym e)))

@@ -3,7 +3,7 @@ use Rattle.std.proofs.Common.{◌≡◌, ◌≢◌, ℕ, Bool, List, [], Option,
 use Rattle.model.specs.FiniteMap.{FinMap, get, empty}
 use Rattle.model.specs.State.{Name, A_directory, Kernel, Inode, File, Directory, Pipe, Fixed, Description, kind, kind_of, mapped}
 use Rattle.model.specs.Calls.{slot_of}
-use Rattle.model.specs.Changes.{Edit, Mode, Make_directory, Make_file, Make_fixed, Name_file, Unname_file, Unname_directory, Move, Put_bytes, Cut, Take, Append, Set_offset, Set_rights, Open_inode, Make_pipe, Share_slot, Clear_slot, New_process, End_process, applied, process_of, set_inode, set_name, clear_name, set_description, at_start, with_slot, open_at, to_read, to_write}
+use Rattle.model.specs.Changes.{Edit, Mode, Make_directory, Make_file, Make_fixed, Name_file, Unname_file, Unname_directory, Move, Swap, Put_bytes, Wipe, Cut, Take, Append, Set_offset, Set_rights, Open_inode, Make_pipe, Share_slot, Clear_slot, New_process, End_process, applied, process_of, set_inode, set_name, clear_name, set_description, at_start, with_slot, open_at, to_read, to_write}
 use Rattle.call_laws.specs.Fits.{table_of, fixed_of, IsAlive, IsUnused, OwnAlike, Fits, IsBy}
 use Rattle.call_laws.specs.WellFormed.{WellFormed, CanBeOpened}
 use Rattle.model.proofs.Laws.{get_other, unchanged_by}
@@ -23,7 +23,7 @@ fixed_same k n new d kinds = by_description (get k.descriptions d) refl
 
 -- an inode of the same kind
 inode_alone : (k : Kernel) (pid n : ℕ) (new : Inode) → kind_of k n ≡ Some (kind new) → OwnAlike k (set_inode n new k) pid
-inode_alone k pid n new is = record { root = refl; largest = refl; table = refl; fixed = λ f d gives. fixed_same k n new d (λ it e. unchanged_by (mapped kind) k n new (sym is) it.inode) }
+inode_alone k pid n new is = record { root = refl; bounds = refl; table = refl; fixed = λ f d gives. fixed_same k n new d (λ it e. unchanged_by (mapped kind) k n new (sym is) it.inode) }
 
 -- a number that no description has open
 open_apart : (k : Kernel) (n : ℕ) → WellFormed k → get k.inodes n ≡ None → (d : ℕ) (it : Description) → get k.descriptions d ≡ Some it → it.inode ≢ n
@@ -31,7 +31,7 @@ open_apart k n well none d it is same = subst CanBeOpened (ap (kind_of k) same �
 
 -- an inode that was not there
 new_alone : (k : Kernel) (pid n : ℕ) (new : Inode) → WellFormed k → get k.inodes n ≡ None → OwnAlike k (set_inode n new k) pid
-new_alone k pid n new well none = record { root = refl; largest = refl; table = refl; fixed = λ f d gives. fixed_same k n new d (λ it e. ap (mapped kind) (get_other k.inodes n it.inode new (open_apart k n well none d it e))) }
+new_alone k pid n new well none = record { root = refl; bounds = refl; table = refl; fixed = λ f d gives. fixed_same k n new d (λ it e. ap (mapped kind) (get_other k.inodes n it.inode new (open_apart k n well none d it e))) }
 
 directory_apart : (k : Kernel) (n d : ℕ) → get k.inodes n ≡ None → kind_of k d ≡ Some A_directory → d ≢ n
 directory_apart k n d none is e = not_none A_directory (sym is ∙ ap (kind_of k) e ∙ ap (mapped kind) none)
@@ -44,7 +44,7 @@ make_alone k pid d x n new well none is =
 open_alone : (k : Kernel) (d n : ℕ) (how : Mode) (q f pid : ℕ) → pid ≢ q → ((g : ℕ) → get (table_of k pid) g ≢ Some d) → OwnAlike k (open_at d n how q f k) pid
 open_alone k d n how q f pid away unheld = record {
   root = refl;
-  largest = refl;
+  bounds = refl;
   table = table_there (set_description d (at_start n how) k) q (with_slot f d (process_of k q)) pid away;
   fixed = λ g e is. other_fixed k d n how q f e (λ same. unheld g (is ∙ ap Some same));
 }
@@ -58,7 +58,7 @@ pipe_alone k p d e q f g pid away well none one two =
     own_trans k (open_at d p to_read q f (set_inode p (Pipe []) k)) (pipe_at p d e q f g k) pid (own_trans k (set_inode p (Pipe []) k) (open_at d p to_read q f (set_inode p (Pipe []) k)) pid first second) third
 
 end_alone : (k : Kernel) (pid q : ℕ) → pid ≢ q → OwnAlike k (without_process q k) pid
-end_alone k pid q away = record { root = refl; largest = refl; table = ap table_in (removed_other k.processes q pid away); fixed = λ f d is. refl }
+end_alone k pid q away = record { root = refl; bounds = refl; table = ap table_in (removed_other k.processes q pid away); fixed = λ f d is. refl }
 
 pub own_is_left_alone : (chosen : List ℕ) (k : Kernel) (e : Edit) (pid other : ℕ) (inside : Bool) → IsBy other inside e → pid ≢ other → IsAlive k pid → WellFormed k → Fits chosen k e → OwnAlike k (applied chosen e k) pid
 unfolding applied
@@ -71,12 +71,16 @@ own_is_left_alone chosen k (Unname_directory d x n) pid other inside by away ali
 own_is_left_alone chosen k (Move d x e y n replaced) pid other inside by away alive well f =
     own_trans k (clear_name d x k) (set_name e y n (clear_name d x k)) pid (inode_alone k pid d _ f.from.parent.directory)
     (inode_alone (clear_name d x k) pid e _ (unchanged_by (mapped kind) k d _ (sym f.from.parent.directory) e ∙ f.onto.directory))
+own_is_left_alone chosen k (Swap d x n e y m) pid other inside by away alive well f =
+    own_trans k (set_name d x m k) (set_name e y n (set_name d x m k)) pid (inode_alone k pid d _ f.first.parent.directory)
+    (inode_alone (set_name d x m k) pid e _ (unchanged_by (mapped kind) k d _ (sym f.first.parent.directory) e ∙ f.second.parent.directory))
 own_is_left_alone chosen k (Put_bytes n place bytes before) pid other inside by away alive well f = inode_alone k pid n _ f.0
+own_is_left_alone chosen k (Wipe n place count) pid other inside by away alive well f = inode_alone k pid n _ f.0
 own_is_left_alone chosen k (Cut n before after) pid other inside by away alive well f = inode_alone k pid n _ f.0
 own_is_left_alone chosen k (Take p count) pid other inside by away alive well f = inode_alone k pid p _ f.0
 own_is_left_alone chosen k (Append p bytes) pid other inside by away alive well f = inode_alone k pid p _ f.0
 own_is_left_alone chosen k (Set_offset d place) pid other inside by away alive well f = offset_alone k pid d place (get k.descriptions d) refl
-own_is_left_alone chosen k (Set_rights n rights) pid other inside by away alive well f = record { root = refl; largest = refl; table = refl; fixed = λ t d is. refl }
+own_is_left_alone chosen k (Set_rights n rights) pid other inside by away alive well f = record { root = refl; bounds = refl; table = refl; fixed = λ t d is. refl }
 own_is_left_alone chosen k (Open_inode i inode how q f) pid other inside by away alive well can = open_alone k _ _ how q f pid (λ e. away (e ∙ by)) (can.unused.unheld pid)
 own_is_left_alone chosen k (Make_pipe i q f g) pid other inside by away alive well can = pipe_alone k _ _ _ q f g pid (λ e. away (e ∙ by)) well can.pipe.inode can.reader can.writer
 own_is_left_alone chosen k (Share_slot q f d pipes) pid other inside by away alive well can = other_alone k pid q _ k.made (λ e. away (e ∙ by))

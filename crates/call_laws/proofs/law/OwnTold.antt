@@ -32,7 +32,7 @@ own_of_alike now later pid call h born =
     ap (listed later) h.table ∙ maps_alike (λ (e : ℕ × ℕ). (e.0, slot_of later e.1 (get later.descriptions e.1))) (λ (e : ℕ × ℕ). (e.0, slot_of now e.1 (get now.descriptions e.1))) (entries (table_of now pid))
     (all_entries nat_cmp_total (λ (f : ℕ) (d : ℕ). ◌≡◌ {A = ℕ × Slot} (f, slot_of later d (get later.descriptions d)) (f, slot_of now d (get now.descriptions d))) (table_of now pid)
     (λ f d is. ap (λ (s : Slot). (f, s)) (slot_by_fixed later d (get later.descriptions d) ∙ ap (slot_or d) (h.fixed f d is) ∙ sym (slot_by_fixed now d (get now.descriptions d))))) in
-    λ i. record { root = h.root i; largest = h.largest i; pid = pid; table = tables i; birth = born i }
+    λ i. record { root = h.root i; bounds = h.bounds i; pid = pid; table = tables i; birth = born i }
 
 -- the table again, from what is told of it
 abbrev plain : List (ℕ × Slot) → List (ℕ × ℕ)
@@ -46,7 +46,7 @@ fixed_is : (k : Kernel) (d : ℕ) (it : Description) → get k.descriptions d �
 fixed_is k d it e = ap (mapped (λ it. slot_of k d (Some it))) e ∙ ap (λ (o : Option Description). Some (slot_of k d o)) (sym e)
 
 pub alike_of_own : (k l : Kernel) (pid : ℕ) (c : Call) → WellFormed k → WellFormed l → own l pid c ≡ own k pid c → OwnAlike k l pid
-alike_of_own k l pid c well well_too same = record { root = ap (λ (o : Own). o.root) same; largest = ap (λ (o : Own). o.largest) same; table = tables; fixed = fixed }
+alike_of_own k l pid c well well_too same = record { root = ap (λ (o : Own). o.root) same; bounds = ap (λ (o : Own). o.bounds) same; table = tables; fixed = fixed }
   where
     tables : table_of l pid ≡ table_of k pid
     tables = same_entries_map (table_of l pid) (table_of k pid) (sym (plain_again l (entries (table_of l pid))) ∙ ap (λ (o : Own). plain o.table) same ∙ plain_again k (entries (table_of k pid)))

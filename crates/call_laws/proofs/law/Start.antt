@@ -82,4 +82,4 @@ tidy_start root setup =
       | inl same ↦ ap (λ b. cond b (get k.inodes n) None) (ap (reached k) same ∙ root_reached k)
       | inr away ↦ none_or (reached k n) (get k.inodes n) (get_other empty root n (Directory empty) away ∙ get-empty nat_cmp n)
     ]) in
-    λ i. record { root = root; inodes = inodes i; rights = rights i; descriptions = descriptions i; processes = k.processes; made = k.made; largest = k.largest }
+    λ i. record { root = root; inodes = inodes i; rights = rights i; descriptions = descriptions i; processes = k.processes; made = k.made; bounds = k.bounds }

@@ -1,10 +1,10 @@
 -- What is there stays through each edit, and what comes has a chosen number.
 use Rattle.std.proofs.Common.{◌≡◌, ◌≢◌, ◌⊎◌, ℕ, ◌+◌, true, List, [], ◌∷◌, Option, Some, None, refl, sym, ap, subst, ◌∙◌, inl, inr}
 use Rattle.std.proofs.lemmas.Bool.{cases_eq}
-use Rattle.model.specs.FiniteMap.{FinMap, get, empty, remove}
+use Rattle.model.specs.FiniteMap.{FinMap, get, empty, insert, remove}
 use Rattle.model.specs.State.{name_cmp, Kind, A_file, A_directory, A_pipe, A_link, Kernel, Inode, File, Directory, Pipe, Fixed, Description, kind, mapped, names_of, kind_of}
 use Rattle.model.specs.Aspects.{Aspect, Entry, Names, Size, Block, Links, Ends, Offset, Front, Back, Target, Rights}
-use Rattle.model.specs.Changes.{Edit, Made, number, Mode, Make_directory, Make_file, Make_fixed, Name_file, Unname_file, Unname_directory, Move, Put_bytes, Cut, Take, Append, Set_offset, Set_rights, Open_inode, Make_pipe, Share_slot, Clear_slot, New_process, End_process, applied, all_applied, set_inode, set_name, clear_name, at_offset, at_start, set_description, open_at, to_read, to_write}
+use Rattle.model.specs.Changes.{Edit, Made, number, Mode, Make_directory, Make_file, Make_fixed, Name_file, Unname_file, Unname_directory, Move, Swap, Put_bytes, Wipe, Cut, Take, Append, Set_offset, Set_rights, Open_inode, Make_pipe, Share_slot, Clear_slot, New_process, End_process, applied, all_applied, set_inode, set_name, clear_name, at_offset, at_start, set_description, open_at, to_read, to_write}
 use Rattle.model.specs.Moments.{is_in}
 use Rattle.call_laws.specs.Objects.{IsThere}
 use Rattle.call_laws.specs.WellFormed.{CanBeLinked}
@@ -87,7 +87,10 @@ edit_grows chosen k (Unname_file d x n) f = same_grows chosen k d _ f.parent.dir
 edit_grows chosen k (Unname_directory d x n) f = same_grows chosen k d _ f.0.parent.directory
 edit_grows chosen k (Move d x e y n replaced) f = then_grows chosen k (clear_name d x k) (set_name e y n (clear_name d x k)) (same_grows chosen k d _ f.from.parent.directory)
     (same_grows chosen (clear_name d x k) e _ ((has_names k d (remove (names_of k d) x) f.from.parent.directory).kinds e ∙ f.onto.directory))
+edit_grows chosen k (Swap d x n e y m) f = then_grows chosen k (set_name d x m k) (set_name e y n (set_name d x m k)) (same_grows chosen k d _ f.first.parent.directory)
+    (same_grows chosen (set_name d x m k) e _ ((has_names k d (insert (names_of k d) x m) f.first.parent.directory).kinds e ∙ f.second.parent.directory))
 edit_grows chosen k (Put_bytes n place bytes before) f = same_grows chosen k n _ f.0
+edit_grows chosen k (Wipe n place count) f = same_grows chosen k n _ f.0
 edit_grows chosen k (Cut n before after) f = same_grows chosen k n _ f.0
 edit_grows chosen k (Take p count) f = same_grows chosen k p _ f.0
 edit_grows chosen k (Append p bytes) f = same_grows chosen k p _ f.0

@@ -1,10 +1,10 @@
 -- States that are alike in all that something leads to stay so through each edit: to tidy before a change and after it is to tidy after it.
-use Rattle.std.proofs.Common.{◌≡◌, ◌≢◌, ℕ, ◌+◌, ◌≤◌, ◌<◌, Bool, true, false, cond, ◌||◌, List, [], ◌∷◌, ◌++◌, drop, Option, Some, None, sum_by, count_by, refl, sym, ap, ap₂, subst, ◌∙◌, arith, ◌==◌, nat_lt, nat_cmp, inl, inr, lt-ltb, ltb-true, eqb-true}
+use Rattle.std.proofs.Common.{◌≡◌, ◌≢◌, ℕ, ◌+◌, ◌≤◌, ◌<◌, Bool, true, false, cond, ◌||◌, List, [], ◌∷◌, ◌++◌, drop, replicate, Option, Some, None, sum_by, count_by, refl, sym, ap, ap₂, subst, ◌∙◌, arith, ◌==◌, nat_lt, nat_cmp, inl, inr, lt-ltb, ltb-true, eqb-true}
 use Rattle.std.specs.Cmp.{nat_cmp_total}
 use Rattle.model.specs.FiniteMap.{FinMap, get, empty, insert, remove, values, retain_keys, nat_cmp-IsAntisymmetric, same_map}
 use Rattle.std.proofs.lemmas.Bool.{cases_eq, or_left, or_right}
 use Rattle.model.specs.State.{Name, name_cmp, A_directory, Kernel, Inode, File, Directory, Pipe, Fixed, Description, Process, Rights, kind, names_of, names_of_inode, file_of, file_of_inode, pipe_of, pipe_of_inode, kind_of, links}
-use Rattle.model.specs.Changes.{Edit, Make_directory, Make_file, Make_fixed, Name_file, Unname_file, Unname_directory, Move, Put_bytes, Cut, Take, Append, Set_offset, Set_rights, Open_inode, Make_pipe, Share_slot, Clear_slot, New_process, End_process, Mode, number, to_read, to_write, at_offset, at_start, open_at, set_process, with_slot, without_slot, process_of, or_new, applied, all_applied, set_inode, set_name, clear_name, set_offset, set_rights, sized, written, holders, openings, is_held, without_descriptions, tidy}
+use Rattle.model.specs.Changes.{Edit, Make_directory, Make_file, Make_fixed, Name_file, Unname_file, Unname_directory, Move, Swap, Put_bytes, Wipe, Cut, Take, Append, Set_offset, Set_rights, Open_inode, Make_pipe, Share_slot, Clear_slot, New_process, End_process, Mode, number, to_read, to_write, at_offset, at_start, open_at, set_process, with_slot, without_slot, process_of, or_new, applied, all_applied, set_inode, set_name, clear_name, set_offset, set_rights, sized, written, holders, openings, is_held, without_descriptions, tidy}
 use Rattle.model.specs.Steps.{IsNowhere}
 use Rattle.call_laws.specs.Fits.{Fits, FitsAll, table_of}
 use Rattle.call_laws.specs.WellFormed.{IsRooted, WellFormed}
@@ -35,7 +35,7 @@ SameAt a b n = (get b.inodes n ≡ get a.inodes n) × (get b.rights n ≡ get a.
 -- two states that are alike in all that something leads to
 pub record Alike (a b : Kernel) : Type 0 where
   pub root : b.root ≡ a.root
-  pub largest : b.largest ≡ a.largest
+  pub bounds : b.bounds ≡ a.bounds
   pub processes : b.processes ≡ a.processes
   pub made : b.made ≡ a.made
   pub held : (d : ℕ) → is_held a d ≡ true → get b.descriptions d ≡ get a.descriptions d
@@ -52,13 +52,13 @@ alike_tidied a b al =
     ap₂ (λ (x : Bool) (y : Bool). x || y) (ap (λ r. n == r) al.root) (ap₂ (λ (x : Bool) (y : Bool). x || y) (ap (nat_lt 0) (al.links n)) (ap (λ (ds : FinMap nat_cmp Description). nat_lt 0 (count_by (λ d. d.inode == n) (values ds))) descriptions)) in
     let kept : retain_keys b.inodes (reached b) ≡ retain_keys a.inodes (reached a) = retained_alike a.inodes b.inodes (reached a) (reached b) tests (λ n e. (al.inodes n e).0) in
     let set : retain_keys b.rights (reached b) ≡ retain_keys a.rights (reached a) = retained_alike a.rights b.rights (reached a) (reached b) tests (λ n e. (al.inodes n e).1) in
-    λ i. record { root = al.root i; inodes = kept i; rights = set i; descriptions = descriptions i; processes = al.processes i; made = al.made i; largest = al.largest i }
+    λ i. record { root = al.root i; inodes = kept i; rights = set i; descriptions = descriptions i; processes = al.processes i; made = al.made i; bounds = al.bounds i }
 
 pub tidied_alike : (k : Kernel) → WellFormed k → Alike k (tidy k)
 unfolding tidy
 tidied_alike k well = record {
   root = refl;
-  largest = refl;
+  bounds = refl;
   processes = refl;
   made = refl;
   held = held_stays k;
@@ -87,7 +87,7 @@ set_alike : (a b : Kernel) (n : ℕ) (new other : Inode) → Alike a b → ((m :
 unfolding holders
 set_alike a b n new other al named here there set = record {
   root = al.root;
-  largest = al.largest;
+  bounds = al.bounds;
   processes = al.processes;
   made = al.made;
   held = al.held;
@@ -176,6 +176,24 @@ moved_alike a b d x e y n al r s r' s' gives =
       (al.inodes n (named_reached a d x n gives)).1,
     )
 
+-- two names that change places
+swapped_alike : (a b : Kernel) (d : ℕ) (x : Name) (n e : ℕ) (y : Name) (m : ℕ) → Alike a b → IsRooted a d → IsRooted b d → IsRooted a e → IsRooted b e → get (names_of a d) x ≡ Some n → get (names_of a e) y ≡ Some m → Alike (set_name e y n (set_name d x m a)) (set_name e y n (set_name d x m b))
+swapped_alike a b d x n e y m al r s r' s' gives gives_too =
+    let names : names_of b d ≡ names_of a d = rooted_names a b al d r in
+    let one = has_names a d (insert (names_of a d) x m) r.directory in
+    let two = has_names b d (insert (names_of b d) x m) s.directory in
+    named_alike (set_name d x m a) (set_name d x m b) e y n (named_alike a b d x m al r.directory s.directory names (al.inodes m (named_reached a e y m gives_too))) (one.kinds e ∙ r'.directory) (two.kinds e ∙ s'.directory)
+    (elim (cases_eq e d) [
+      | inl same ↦ ap (names_of (set_name d x m b)) same ∙ two.here ∙ ap (λ (ns : FinMap name_cmp ℕ). insert ns x m) names ∙ sym (ap (names_of (set_name d x m a)) same ∙ one.here)
+      | inr away ↦ two.there e away ∙ rooted_names a b al e r' ∙ sym (one.there e away)
+    ]) (
+      elim (cases_eq n d) [
+        | inl same ↦ ap (get (set_name d x m b).inodes) same ∙ get_same b.inodes d _ ∙ ap (λ (ns : FinMap name_cmp ℕ). Some (Directory (insert ns x m))) names ∙ sym (ap (get (set_name d x m a).inodes) same ∙ get_same a.inodes d _)
+        | inr away ↦ get_other b.inodes d n _ away ∙ (al.inodes n (named_reached a d x n gives)).0 ∙ sym (get_other a.inodes d n _ away)
+      ],
+      (al.inodes n (named_reached a d x n gives)).1,
+    )
+
 -- an offset is in no test of what is reached
 open_count : (k : Kernel) (d place : ℕ) (it : Description) → get k.descriptions d ≡ Some it → (n : ℕ) → openings (without_descriptions (with_offset d place it k)) n ≡ openings (without_descriptions k) n
 unfolding openings holders
@@ -215,7 +233,7 @@ offset_alike : (a b : Kernel) (d place : ℕ) (it is : Description) → Alike a 
 unfolding links holders
 offset_alike a b d place it is al e f = record {
   root = al.root;
-  largest = al.largest;
+  bounds = al.bounds;
   processes = al.processes;
   made = al.made;
   held = λ t h. elim (cases_eq t d) [
@@ -266,7 +284,7 @@ tables_alike : (a b : Kernel) (ds es : FinMap nat_cmp Description) (ps qs : FinM
 unfolding links openings
 tables_alike a b ds es ps qs m n al processes made held opened = record {
   root = al.root;
-  largest = al.largest;
+  bounds = al.bounds;
   processes = processes;
   made = made;
   held = held;
@@ -325,7 +343,7 @@ rights_alike : (a b : Kernel) (n : ℕ) (rights : Rights) → Alike a b → Alik
 unfolding links openings holders
 rights_alike a b n rights al = record {
   root = al.root;
-  largest = al.largest;
+  bounds = al.bounds;
   processes = al.processes;
   made = al.made;
   held = al.held;
@@ -349,7 +367,9 @@ stays_alike chosen a b (Name_file d x n) al f g = named_alike a b d x n al f.0.p
 stays_alike chosen a b (Unname_file d x n) al f g = unnamed_alike a b d x al f.parent.directory g.parent.directory (rooted_names a b al d f.parent)
 stays_alike chosen a b (Unname_directory d x n) al f g = unnamed_alike a b d x al f.0.parent.directory g.0.parent.directory (rooted_names a b al d f.0.parent)
 stays_alike chosen a b (Move d x e y n replaced) al f g = moved_alike a b d x e y n al f.from.parent g.from.parent f.onto g.onto f.from.gives
+stays_alike chosen a b (Swap d x n e y m) al f g = swapped_alike a b d x n e y m al f.first.parent g.first.parent f.second.parent g.second.parent f.first.gives f.second.gives
 stays_alike chosen a b (Put_bytes n place bytes before) al f g = bytes_alike a b n (File (written (file_of a n) place bytes)) (File (written (file_of b n) place bytes)) al (has_bytes a n _ (sym f.0) refl (no_names_file _ f.0)) (has_bytes b n _ (sym g.0) refl (no_names_file _ g.0)) (λ e. ap (λ o. File (written (file_of_inode o) place bytes)) e)
+stays_alike chosen a b (Wipe n place count) al f g = bytes_alike a b n (File (written (file_of a n) place (replicate count 0))) (File (written (file_of b n) place (replicate count 0))) al (has_bytes a n _ (sym f.0) refl (no_names_file _ f.0)) (has_bytes b n _ (sym g.0) refl (no_names_file _ g.0)) (λ e. ap (λ o. File (written (file_of_inode o) place (replicate count 0))) e)
 stays_alike chosen a b (Cut n before after) al f g = bytes_alike a b n (File (sized after (file_of a n))) (File (sized after (file_of b n))) al (has_bytes a n _ (sym f.0) refl (no_names_file _ f.0)) (has_bytes b n _ (sym g.0) refl (no_names_file _ g.0)) (λ e. ap (λ o. File (sized after (file_of_inode o))) e)
 stays_alike chosen a b (Take p count) al f g = bytes_alike a b p (Pipe (drop count (pipe_of a p))) (Pipe (drop count (pipe_of b p))) al (has_bytes a p _ (sym f.0) refl (no_names_pipe _ f.0)) (has_bytes b p _ (sym g.0) refl (no_names_pipe _ g.0)) (λ e. ap (λ o. Pipe (drop count (pipe_of_inode o))) e)
 stays_alike chosen a b (Append p bytes) al f g = bytes_alike a b p (Pipe (pipe_of a p ++ bytes)) (Pipe (pipe_of b p ++ bytes)) al (has_bytes a p _ (sym f.0) refl (no_names_pipe _ f.0)) (has_bytes b p _ (sym g.0) refl (no_names_pipe _ g.0)) (λ e. ap (λ o. Pipe (pipe_of_inode o ++ bytes)) e)

@@ -1,13 +1,13 @@
 -- A well-formed state stays so through each edit that fits it.
-use Rattle.std.proofs.Common.{◌≡◌, ◌≢◌, ◌⊎◌, ℕ, suc, ◌<◌, ◌≤◌, true, false, List, [], ◌∷◌, ◌++◌, drop, Option, Some, None, is_some, refl, sym, ap, subst, ◌∙◌, arith, nat_cmp, inl, inr}
+use Rattle.std.proofs.Common.{◌≡◌, ◌≢◌, ◌⊎◌, ℕ, suc, ◌<◌, ◌≤◌, true, false, List, [], ◌∷◌, ◌++◌, drop, replicate, Option, Some, None, is_some, refl, sym, ap, subst, ◌∙◌, arith, nat_cmp, inl, inr}
 use Rattle.std.specs.Cmp.Lexicographic.{nat_list_cmp_total}
 use Rattle.std.proofs.lemmas.Bool.{cases_eq}
 use Rattle.model.specs.FiniteMap.{FinMap, get, empty, insert, remove}
 use Rattle.model.specs.State.{Name, Kind, A_file, A_directory, A_pipe, Kernel, Inode, File, Directory, Pipe, Fixed, Description, Process, Fixed_content, Link_to, Fifo, Socket, Rights, kind_of, names_of, file_of, pipe_of, links}
 use Rattle.ids.specs.Fixed.{fixed_kind}
 use Rattle.model.specs.Moments.{is_alive}
-use Rattle.model.specs.Changes.{Edit, Made, number, Mode, Make_directory, Make_file, Make_fixed, Name_file, Unname_file, Unname_directory, Move, Put_bytes, Cut, Take, Append, Set_offset, Set_rights, Open_inode, Make_pipe, Share_slot, Clear_slot, New_process, End_process, applied, all_applied, process_of, set_inode, set_name, clear_name, set_rights, set_process, set_description, at_offset, at_start, with_slot, without_slot, open_at, to_read, to_write, sized, written}
-use Rattle.call_laws.specs.WellFormed.{WellFormed, CanBeNamed, CanBeOpened, descriptor_limit}
+use Rattle.model.specs.Changes.{Edit, Made, number, Mode, Make_directory, Make_file, Make_fixed, Name_file, Unname_file, Unname_directory, Move, Swap, Put_bytes, Wipe, Cut, Take, Append, Set_offset, Set_rights, Open_inode, Make_pipe, Share_slot, Clear_slot, New_process, End_process, applied, all_applied, process_of, set_inode, set_name, clear_name, set_rights, set_process, set_description, at_offset, at_start, with_slot, without_slot, open_at, to_read, to_write, sized, written}
+use Rattle.call_laws.specs.WellFormed.{WellFormed, CanBeNamed, CanBeOpened, most_descriptors}
 use Rattle.call_laws.specs.Fits.{Fits, FitsAll, table_of, IsAlive, CanPipe}
 use Rattle.model.proofs.Laws.{get_same, get_other}
 use Rattle.call_laws.proofs.Maps.{not_none, from_insert, from_remove, removed_same, removed_other, empty_gives, none_by_keys}
@@ -21,6 +21,7 @@ use Rattle.call_laws.proofs.edits.SlotsAlike.{with_tables, pipe_at}
 use Rattle.call_laws.proofs.edits.InodeMarks.{linked_is_other, still_gives, other_old}
 use Rattle.call_laws.proofs.law.There.{edit_grows}
 use Rattle.call_laws.proofs.edits.NamesWell.{NamesAreWell, bytes_names, made_names, linked_names, unnamed_names, moved_names, new_names, has_names_in}
+use Rattle.call_laws.proofs.edits.Swapped.{swapped_names, swapped_tree}
 use Rattle.call_laws.proofs.edits.Tree.{HasPaths, same_tree, made_tree, linked_tree, unnamed_tree, bytes_tree, moved_tree, new_tree}
 
 -- what is of some kind stays so
@@ -30,7 +31,7 @@ KindsStay k after = (t : ℕ) (what : Kind) → kind_of k t ≡ Some what → ki
 -- what must be seen of slots, descriptions and processes
 pub record TablesAreWell (k : Kernel) : Type 0 where
   pub slots : (pid f d : ℕ) → get (table_of k pid) f ≡ Some d → (it : Description) × (get k.descriptions d ≡ Some it)
-  pub low : (pid f d : ℕ) → get (table_of k pid) f ≡ Some d → f < descriptor_limit
+  pub low : (pid f d : ℕ) → get (table_of k pid) f ≡ Some d → f < most_descriptors k
   pub descriptions : (d : ℕ) (it : Description) → get k.descriptions d ≡ Some it → CanBeOpened (kind_of k it.inode)
   pub counted : (pid : ℕ) → is_alive k pid ≡ true → pid ≤ k.made
 
@@ -85,7 +86,7 @@ slot_after k q x pid g e is =
 
 -- a slot that is right: it gives a description, and its descriptor is low
 abbrev IsSlot : Kernel → ℕ → ℕ → Type 0
-IsSlot k g e = ((it : Description) × (get k.descriptions e ≡ Some it)) × (g < descriptor_limit)
+IsSlot k g e = ((it : Description) × (get k.descriptions e ≡ Some it)) × (g < most_descriptors k)
 
 -- a new table for a process, each slot of it right
 process_tables : (k : Kernel) (q : ℕ) (x : Process) (made : ℕ) → ((g e : ℕ) → get x.table g ≡ Some e → IsSlot k g e) → q ≤ made → k.made ≤ made → TablesAreWell k
@@ -127,12 +128,12 @@ described_tables k d it can tables = record {
   counted = tables.counted;
 }
 
-open_tables : (k : Kernel) (d n : ℕ) (how : Mode) (pid f : ℕ) → CanBeOpened (kind_of k n) → IsAlive k pid → f < descriptor_limit → TablesAreWell k → TablesAreWell (open_at d n how pid f k)
+open_tables : (k : Kernel) (d n : ℕ) (how : Mode) (pid f : ℕ) → CanBeOpened (kind_of k n) → IsAlive k pid → f < most_descriptors k → TablesAreWell k → TablesAreWell (open_at d n how pid f k)
 open_tables k d n how pid f can alive low tables =
     let mid : TablesAreWell (set_description d (at_start n how) k) = described_tables k d (at_start n how) can tables in
     process_tables (set_description d (at_start n how) k) pid (with_slot f d (process_of k pid)) k.made
     (λ g e is. elim (from_insert (table_of k pid) f g d e is) [
-      | inl here ↦ ((at_start n how, ap (get (insert k.descriptions d (at_start n how))) (sym here.1) ∙ get_same k.descriptions d (at_start n how)), subst (λ g. g < descriptor_limit) (sym here.0) low)
+      | inl here ↦ ((at_start n how, ap (get (insert k.descriptions d (at_start n how))) (sym here.1) ∙ get_same k.descriptions d (at_start n how)), subst (λ g. g < most_descriptors k) (sym here.0) low)
       | inr there ↦ (mid.slots pid g e there.1, tables.low pid g e there.1)
     ])
     (tables.counted pid (some_alive k pid alive)) (omega arith) mid
@@ -254,7 +255,15 @@ well_stays chosen k (Move d x e y n replaced) well f =
     (moved_names k d x e y n f.old replaced well f.from.parent.directory f.onto f.from.gives f.gives still f.replaces)
     (moved_tree k d x e y n f.old replaced well f.from.parent.directory f.onto f.from.gives f.gives still f.replaces f.no_ring (tree_of k well))
     (inode_tables (clear_name d x k) e _ (λ t what is. (has_names (clear_name d x k) e _ (from_stay e A_directory f.onto.directory)).kinds t ∙ is) (inode_tables k d _ from_stay (tables_of k well)))
+well_stays chosen k (Swap d x n e y m) well f =
+    let stay : KindsStay k (set_name e y n (set_name d x m k)) = (edit_grows chosen k (Swap d x n e y m) f).kinds in
+    let mid_stay : KindsStay k (set_name d x m k) = λ t what is. (has_names k d (insert (names_of k d) x m) f.first.parent.directory).kinds t ∙ is in
+    well_by k (set_name e y n (set_name d x m k)) refl refl stay well
+    (swapped_names k d x n e y m well f.first.parent f.second.parent f.first.gives f.second.gives f.apart)
+    (swapped_tree k d x n e y m well f.first.parent f.second.parent f.first.gives f.second.gives f.apart f.no_ring f.no_ring_back (tree_of k well))
+    (inode_tables (set_name d x m k) e _ (λ t what is. (has_names (set_name d x m k) e _ (mid_stay e A_directory f.second.parent.directory)).kinds t ∙ is) (inode_tables k d _ mid_stay (tables_of k well)))
 well_stays chosen k (Put_bytes n place bytes before) well f = bytes_well k n (File (written (file_of k n) place bytes)) well (has_bytes k n _ (sym f.0) refl (no_names_file _ f.0))
+well_stays chosen k (Wipe n place count) well f = bytes_well k n (File (written (file_of k n) place (replicate count 0))) well (has_bytes k n _ (sym f.0) refl (no_names_file _ f.0))
 well_stays chosen k (Cut n before after) well f = bytes_well k n (File (sized after (file_of k n))) well (has_bytes k n _ (sym f.0) refl (no_names_file _ f.0))
 well_stays chosen k (Take p count) well f = bytes_well k p (Pipe (drop count (pipe_of k p))) well (has_bytes k p _ (sym f.0) refl (no_names_pipe _ f.0))
 well_stays chosen k (Append p bytes) well f = bytes_well k p (Pipe (pipe_of k p ++ bytes)) well (has_bytes k p _ (sym f.0) refl (no_names_pipe _ f.0))
@@ -273,7 +282,7 @@ well_stays chosen k (Make_pipe i q f g) well can =
     (pipe_tables chosen k _ _ _ q f g can (tables_of k well))
 well_stays chosen k (Share_slot q f d pipes) well can = well_over k _ _ k.made well (process_tables k q (with_slot f d (process_of k q)) k.made
     (λ g e is. elim (from_insert (table_of k q) f g d e is) [
-      | inl here ↦ (subst (λ e. (it : Description) × (get k.descriptions e ≡ Some it)) here.1 (well.slots q can.from d can.held), subst (λ g. g < descriptor_limit) (sym here.0) can.low)
+      | inl here ↦ (subst (λ e. (it : Description) × (get k.descriptions e ≡ Some it)) here.1 (well.slots q can.from d can.held), subst (λ g. g < most_descriptors k) (sym here.0) can.low)
       | inr there ↦ (well.slots q g e there.1, well.low q g e there.1)
     ])
     (well.counted q (some_alive k q can.alive)) (omega arith) (tables_of k well))

@@ -37,7 +37,7 @@ pub own_tidied : (k : Kernel) (pid : ℕ) → OwnAlike k (tidy k) pid
 unfolding tidy
 own_tidied k pid = record {
   root = refl;
-  largest = refl;
+  bounds = refl;
   table = refl;
   fixed = λ f d is. ap (mapped (λ it. slot_of (tidy k) d (Some it))) (held_stays k d (held_by k pid f d is)) ∙ by_description d (held_by k pid f d is) (get k.descriptions d) refl;
 }

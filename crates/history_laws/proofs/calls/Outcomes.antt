@@ -1,18 +1,19 @@
 -- What the plans of calls come to: none refuses as unsupported, and but for fork and exit each edit
 -- of processes is of the caller's own table.
-use Rattle.std.proofs.Common.{◌≡◌, ℕ, List, [], ◌∷◌, Bool, true, false, not, ◌||◌, ◌&&◌, Option, Some, None, Result, Ok, Err, IfOk, refl, ap, ◌==◌, nat_lt, nat_le, if◌then◌else◌, length}
-use Rattle.std.specs.Prelude.{⊤, ℤ, pos, negsuc, ◌+ℤ◌}
+use Rattle.std.proofs.Common.{◌+◌, ◌≡◌, ℕ, List, [], ◌∷◌, Bool, true, false, not, ◌||◌, ◌&&◌, Option, Some, None, Result, Ok, Err, IfOk, refl, ap, ◌==◌, nat_lt, nat_le, if◌then◌else◌, length}
+use Rattle.std.specs.Prelude.{⊤, ℤ, pos, negsuc}
 use Rattle.std.specs.List.{AllByRecursion, list_any}
 use Rattle.std.proofs.lemmas.Bool.{false≢true}
 use Rattle.model.proofs.Laws.{append-all}
 use Rattle.model.specs.State.{Name, A_file, A_directory, A_pipe, A_link, A_fifo, A_socket, Kernel}
 use Rattle.model.specs.Plan.{Errno, EAGAIN, EBADF, EBUSY, EEXIST, EFBIG, EINVAL, EISDIR, ELOOP, ENAMETOOLONG, ENOENT, ENOTDIR, ENOTEMPTY, ENXIO, EPERM, EPIPE, ESPIPE, Shown, answer, Plan, Give, Refuse, Ask, ◌>>=◌, refuse_if, or_refuse, given}
+use Rattle.model.specs.Holes.{behind_blocks}
 use Rattle.model.specs.Paths.{is_empty, is_below, is_no_name, with_first, names_in, names_behind, absolute_names, path_names, pieces}
 use Rattle.model.specs.Walks.{told, parsed, Place, is_directory, is_link, look, walk, Last, last, last_of}
 use Rattle.model.specs.Changes.{Edit, Replaced, Open_inode, Make_pipe, Share_slot, Clear_slot, New_process, End_process}
 use Rattle.ids.specs.Flags.{is_reading, is_writing, is_creating, is_exclusive, is_truncating}
-use Rattle.model.specs.Calls.{own, Call, Open, Close, Read, Pread, Write, Pwrite, Lseek, Ftruncate, Truncate, Stat, Fstat, Link, Unlink, Rename, Mkdir, Rmdir, List_directory, Symlink, Readlink, Lstat, Mknod, Chmod, Chown, Fchmod, Fchown, Dup, Dup2, Open_pipe, Fork, Exit, Whence, From_start, From_offset, From_end, OpenFlags, Answer, Child, Slot, Own}
-use Rattle.model.specs.Plans.{Change, plan, target_limit, is_pipe, status, is_special, cut_to, opened, read_pipe, read_some, place_to_write, write_some, offset_named, write_from, sought, base, replaced_by_name, move_onto, moved, absent, duplicated, piped, forked, first_of_free, slot, slot_at, free}
+use Rattle.model.specs.Calls.{own, Call, Open, Close, Read, Pread, Write, Pwrite, Lseek, Ftruncate, Truncate, Stat, Fstat, Link, Unlink, Rename, Exchange, Fallocate, Space, Grow, Keep, Punch, Mkdir, Rmdir, List_directory, Symlink, Readlink, Lstat, Mknod, Chmod, Chown, Fchmod, Fchown, Dup, Dup2, Open_pipe, Fork, Exit, Whence, From_start, From_offset, From_end, To_data, To_hole, OpenFlags, Answer, Child, Slot, Own}
+use Rattle.model.specs.Plans.{Change, plan, target_limit, is_pipe, status, is_special, cut_to, opened, read_pipe, read_some, place_to_write, write_some, offset_named, write_from, sought, length_named, found_from, aimed, spaced, replaced_by_name, move_onto, moved, absent, duplicated, piped, forked, first_of_free, slot, slot_at, free, open_limit}
 use Rattle.model.specs.Entries.{is_unsupported, is_inside, answer_in}
 use Rattle.model.specs.Replies.{answered}
 use Rattle.model.specs.Steps.{outcome, reply, reply_of}
@@ -70,8 +71,8 @@ fine_absolute (b ∷ bytes) = by (b == 47) where
   by true = fine_behind bytes
   by false = refl
 
-fine_path : (bytes : List ℕ) → Fine (path_names bytes)
-fine_path bytes = by (nat_lt 1024 (length bytes)) where
+fine_path : (most : ℕ) (bytes : List ℕ) → Fine (path_names most bytes)
+fine_path most bytes = by (nat_lt most (length bytes)) where
   by : (a : Bool) → Fine (if a then Err ENAMETOOLONG else absolute_names bytes)
   by true = refl
   by false = fine_absolute bytes
@@ -80,8 +81,8 @@ told_any : {A : Type 0} (r : Result A Errno) → Fine r → Ends Any (told r)
 told_any (Ok x) h = tt
 told_any (Err e) h = h
 
-parsed_any : (bytes : List ℕ) → Ends Any (parsed bytes)
-parsed_any bytes = told_any (path_names bytes) (fine_path bytes)
+parsed_any : (most : ℕ) (bytes : List ℕ) → Ends Any (parsed most bytes)
+parsed_any most bytes = told_any (path_names most bytes) (fine_path most bytes)
 
 look_any : (place : Place) (x : Name) → Ends Any (look place x)
 look_any place x = then_any Any (refuse_if (is_link place) ELOOP) _ (tested _ ELOOP refl) (λ _.
@@ -178,10 +179,29 @@ tame_sought : (pid largest : ℕ) (it : Slot) (z : ℤ) → Ends (Tame pid) (sou
 tame_sought pid largest it (pos place) = then_any (Tame pid) (refuse_if (nat_lt largest place) EINVAL) _ (tested _ EINVAL refl) (λ _. record { edits = (tt, tt); childless = refl })
 tame_sought pid largest it (negsuc place) = refl
 
-base_any : (it : Slot) (w : Whence) → Ends Any (base it w)
-base_any it From_start = tt
-base_any it From_offset = λ a. tt
-base_any it From_end = λ a. tt
+found_any : (holes : Bool) (n from : ℕ) → Ends Any (found_from holes n from)
+found_any holes n from = λ size. then_any {B = ℕ} Any (refuse_if (nat_le size from) ENXIO) _ (tested _ ENXIO refl) (λ _ passed.
+    then_any {B = ℕ} Any (refuse_if (not holes && nat_le size (behind_blocks from passed)) ENXIO) _ (tested _ ENXIO refl) (λ _. tt))
+
+found_at : (holes : Bool) (n : ℕ) (move : ℤ) → Ends {A = ℤ} Any (or_refuse ENXIO (offset_named move) >>= (λ from. found_from holes n from >>= (λ place. Give (pos place))))
+found_at holes n (pos from) = then_any {B = ℤ} Any (found_from holes n from) _ (found_any holes n from) (λ place. tt)
+found_at holes n (negsuc from) = refl
+
+aimed_any : (it : Slot) (move : ℤ) (w : Whence) → Ends Any (aimed it move w)
+aimed_any it move From_start = tt
+aimed_any it move From_offset = λ a. tt
+aimed_any it move From_end = λ a. tt
+aimed_any it move To_data = found_at false it.inode move
+aimed_any it move To_hole = found_at true it.inode move
+
+edits_if : (pid : ℕ) (b : Bool) (e : Edit) → IsOf pid e → AllByRecursion (IsOf pid) (if b then e ∷ [] else [])
+edits_if pid true e h = (h, tt)
+edits_if pid false e h = tt
+
+tame_spaced : (pid n at count : ℕ) (space : Space) → Ends (Tame pid) (spaced n at count space)
+tame_spaced pid n at count Grow = λ size. record { edits = edits_if pid _ _ tt; childless = refl }
+tame_spaced pid n at count Keep = record { edits = tt; childless = refl }
+tame_spaced pid n at count Punch = λ size. record { edits = edits_if pid _ _ tt; childless = refl }
 
 replaced_any : (n : ℕ) (b : Bool) → Ends Any (replaced_by_name n b)
 replaced_any n true = λ names. then_any {B = Replaced} Any (refuse_if (not (is_empty names)) ENOTEMPTY) _ (tested _ ENOTEMPTY refl) (λ _. tt)
@@ -227,7 +247,7 @@ tame_plan own (Open path flags) is =
     then_any (Tame own.pid) (refuse_if (not (is_reading flags || is_writing flags)) EINVAL) _ (tested _ EINVAL refl) (λ _.
     then_any (Tame own.pid) (refuse_if (is_exclusive flags && not (is_creating flags)) EINVAL) _ (tested _ EINVAL refl) (λ _.
     then_any (Tame own.pid) (refuse_if (is_truncating flags && not (is_writing flags)) EINVAL) _ (tested _ EINVAL refl) (λ _.
-    then_any (Tame own.pid) (parsed path) _ (parsed_any path) (λ names.
+    then_any (Tame own.pid) (parsed own.bounds.path_bytes path) _ (parsed_any own.bounds.path_bytes path) (λ names.
     then_any (Tame own.pid) (first_of_free (free own)) _ (first_any (free own)) (λ f.
     then_any (Tame own.pid) (last_of own.root (if is_creating flags && is_exclusive flags then EEXIST else EISDIR) names) _ (last_of_any own.root _ names (same_or _)) (λ at.
     tame_opened own flags f at at.found))))))
@@ -240,61 +260,78 @@ tame_plan own (Pread f count offset) is = then_any (Tame own.pid) (slot own f) _
     then_any (Tame own.pid) (or_refuse EINVAL (offset_named offset)) _ (found EINVAL (offset_named offset) refl) (λ at.
     either (Tame own.pid) (count == 0) _ _ (record { edits = tt; childless = refl }) (λ bytes. record { edits = tt; childless = refl })))))
 tame_plan own (Write f bytes) is = then_any (Tame own.pid) (slot own f) _ (slot_any own f) (λ it.
-    then_any (Tame own.pid) (refuse_if (not it.writing) EBADF) _ (tested _ EBADF refl) (λ _. either (Tame own.pid) (is_empty bytes) _ _ (record { edits = tt; childless = refl }) (tame_write own.pid own.largest it bytes)))
+    then_any (Tame own.pid) (refuse_if (not it.writing) EBADF) _ (tested _ EBADF refl) (λ _. either (Tame own.pid) (is_empty bytes) _ _ (record { edits = tt; childless = refl }) (tame_write own.pid own.bounds.file_bytes it bytes)))
 tame_plan own (Pwrite f bytes offset) is = then_any (Tame own.pid) (slot own f) _ (slot_any own f) (λ it.
     then_any (Tame own.pid) (refuse_if (not it.writing) EBADF) _ (tested _ EBADF refl) (λ _.
     then_any (Tame own.pid) (refuse_if (is_pipe it.kind) ESPIPE) _ (tested _ ESPIPE refl) (λ _.
     then_any (Tame own.pid) (or_refuse EINVAL (offset_named offset)) _ (found EINVAL (offset_named offset) refl) (λ at.
-    either (Tame own.pid) (is_empty bytes) _ _ (record { edits = tt; childless = refl }) (tame_write_from own.pid own.largest it.inode at bytes)))))
+    either (Tame own.pid) (is_empty bytes) _ _ (record { edits = tt; childless = refl }) (tame_write_from own.pid own.bounds.file_bytes it.inode at bytes)))))
 tame_plan own (Lseek f move whence) is = then_any (Tame own.pid) (slot own f) _ (slot_any own f) (λ it.
     then_any (Tame own.pid) (refuse_if (is_pipe it.kind) ESPIPE) _ (tested _ ESPIPE refl) (λ _.
-    then_any (Tame own.pid) (base it whence) _ (base_any it whence) (λ place. tame_sought own.pid own.largest it (pos place +ℤ move))))
+    then_any (Tame own.pid) (aimed it move whence) _ (aimed_any it move whence) (λ sum. tame_sought own.pid own.bounds.file_bytes it sum)))
+tame_plan own (Fallocate f offset len space) is = then_any (Tame own.pid) (slot own f) _ (slot_any own f) (λ it.
+    then_any (Tame own.pid) (or_refuse EINVAL (offset_named offset)) _ (found EINVAL (offset_named offset) refl) (λ at.
+    then_any (Tame own.pid) (or_refuse EINVAL (length_named len)) _ (found EINVAL (length_named len) refl) (λ count.
+    then_any (Tame own.pid) (refuse_if (not it.writing) EBADF) _ (tested _ EBADF refl) (λ _.
+    then_any (Tame own.pid) (refuse_if (is_pipe it.kind) ESPIPE) _ (tested _ ESPIPE refl) (λ _.
+    then_any (Tame own.pid) (refuse_if (nat_lt own.bounds.file_bytes (at + count)) EFBIG) _ (tested _ EFBIG refl) (λ _. tame_spaced own.pid it.inode at count space))))))
 tame_plan own (Ftruncate f len) is = then_any (Tame own.pid) (slot own f) _ (slot_any own f) (λ it.
     then_any (Tame own.pid) (refuse_if (not it.writing) EBADF) _ (tested _ EBADF refl) (λ _.
     then_any (Tame own.pid) (refuse_if (is_pipe it.kind) EINVAL) _ (tested _ EINVAL refl) (λ _.
-    then_any (Tame own.pid) (refuse_if (nat_lt own.largest len) EFBIG) _ (tested _ EFBIG refl) (λ _ size. record { edits = (tt, tt); childless = refl }))))
-tame_plan own (Truncate path len) is = then_any (Tame own.pid) (parsed path) _ (parsed_any path) (λ names.
+    then_any (Tame own.pid) (refuse_if (nat_lt own.bounds.file_bytes len) EFBIG) _ (tested _ EFBIG refl) (λ _ size. record { edits = (tt, tt); childless = refl }))))
+tame_plan own (Truncate path len) is = then_any (Tame own.pid) (parsed own.bounds.path_bytes path) _ (parsed_any own.bounds.path_bytes path) (λ names.
     then_any (Tame own.pid) (walk (own.root, Some A_directory) names) _ (walk_any _ names) (λ place.
     then_any (Tame own.pid) (refuse_if (is_directory place) EISDIR) _ (tested _ EISDIR refl) (λ _.
     then_any (Tame own.pid) (refuse_if (is_link place) ELOOP) _ (tested _ ELOOP refl) (λ _.
     then_any (Tame own.pid) (refuse_if (is_special place) EINVAL) _ (tested _ EINVAL refl) (λ _.
-    then_any (Tame own.pid) (refuse_if (nat_lt own.largest len) EFBIG) _ (tested _ EFBIG refl) (λ _ size. record { edits = (tt, tt); childless = refl }))))))
-tame_plan own (Stat path) is = then_any (Tame own.pid) (parsed path) _ (parsed_any path) (λ names.
+    then_any (Tame own.pid) (refuse_if (nat_lt own.bounds.file_bytes len) EFBIG) _ (tested _ EFBIG refl) (λ _ size. record { edits = (tt, tt); childless = refl }))))))
+tame_plan own (Stat path) is = then_any (Tame own.pid) (parsed own.bounds.path_bytes path) _ (parsed_any own.bounds.path_bytes path) (λ names.
     then_any (Tame own.pid) (walk (own.root, Some A_directory) names) _ (walk_any _ names) (λ place.
     then_any (Tame own.pid) (refuse_if (is_link place) ELOOP) _ (tested _ ELOOP refl) (λ _. tame_status own.pid place)))
 tame_plan own (Fstat f) is = then_any (Tame own.pid) (slot own f) _ (slot_any own f) (λ it. tame_status own.pid (it.inode, it.kind))
 tame_plan own (Link old path) is =
-    then_any (Tame own.pid) (parsed old) _ (parsed_any old) (λ from_names.
-    then_any (Tame own.pid) (parsed path) _ (parsed_any path) (λ to.
+    then_any (Tame own.pid) (parsed own.bounds.path_bytes old) _ (parsed_any own.bounds.path_bytes old) (λ from_names.
+    then_any (Tame own.pid) (parsed own.bounds.path_bytes path) _ (parsed_any own.bounds.path_bytes path) (λ to.
     then_any (Tame own.pid) (walk (own.root, Some A_directory) from_names) _ (walk_any _ from_names) (λ what.
     then_any (Tame own.pid) (refuse_if (is_directory what) EPERM) _ (tested _ EPERM refl) (λ _.
     then_any (Tame own.pid) (last_of own.root EEXIST to) _ (last_of_any own.root EEXIST to refl) (λ at.
     then_any (Tame own.pid) (absent at.found) _ (absent_any at.found) (λ _. record { edits = (tt, tt); childless = refl }))))))
 tame_plan own (Unlink path) is =
-    then_any (Tame own.pid) (parsed path) _ (parsed_any path) (λ names.
+    then_any (Tame own.pid) (parsed own.bounds.path_bytes path) _ (parsed_any own.bounds.path_bytes path) (λ names.
     then_any (Tame own.pid) (last_of own.root EPERM names) _ (last_of_any own.root EPERM names refl) (λ at.
     then_any (Tame own.pid) (or_refuse ENOENT at.found) _ (found ENOENT at.found refl) (λ what.
     then_any (Tame own.pid) (refuse_if (is_directory what) EPERM) _ (tested _ EPERM refl) (λ _. record { edits = (tt, tt); childless = refl }))))
 tame_plan own (Rename old path) is =
-    then_any (Tame own.pid) (parsed old) _ (parsed_any old) (λ from_names.
-    then_any (Tame own.pid) (parsed path) _ (parsed_any path) (λ to.
+    then_any (Tame own.pid) (parsed own.bounds.path_bytes old) _ (parsed_any own.bounds.path_bytes old) (λ from_names.
+    then_any (Tame own.pid) (parsed own.bounds.path_bytes path) _ (parsed_any own.bounds.path_bytes path) (λ to.
     then_any (Tame own.pid) (refuse_if (is_empty from_names || is_empty to) EBUSY) _ (tested _ EBUSY refl) (λ _.
     then_any (Tame own.pid) (last_of own.root EBUSY from_names) _ (last_of_any own.root EBUSY from_names refl) (λ at.
     then_any (Tame own.pid) (or_refuse ENOENT at.found) _ (found ENOENT at.found refl) (λ what.
     then_any (Tame own.pid) (refuse_if (is_directory what && is_below from_names to) EINVAL) _ (tested _ EINVAL refl) (λ _.
     then_any (Tame own.pid) (last_of own.root EBUSY to) _ (last_of_any own.root EBUSY to refl) (λ onto. tame_moved own.pid at what onto onto.found)))))))
+tame_plan own (Exchange old path) is =
+    then_any (Tame own.pid) (parsed own.bounds.path_bytes old) _ (parsed_any own.bounds.path_bytes old) (λ from_names.
+    then_any (Tame own.pid) (parsed own.bounds.path_bytes path) _ (parsed_any own.bounds.path_bytes path) (λ to.
+    then_any (Tame own.pid) (refuse_if (is_empty from_names || is_empty to) EBUSY) _ (tested _ EBUSY refl) (λ _.
+    then_any (Tame own.pid) (last_of own.root EBUSY from_names) _ (last_of_any own.root EBUSY from_names refl) (λ at.
+    then_any (Tame own.pid) (last_of own.root EBUSY to) _ (last_of_any own.root EBUSY to refl) (λ onto.
+    then_any (Tame own.pid) (or_refuse ENOENT at.found) _ (found ENOENT at.found refl) (λ what.
+    then_any (Tame own.pid) (or_refuse ENOENT onto.found) _ (found ENOENT onto.found refl) (λ other.
+    then_any (Tame own.pid) (refuse_if (is_directory what && is_below from_names to) EINVAL) _ (tested _ EINVAL refl) (λ _.
+    then_any (Tame own.pid) (refuse_if (is_directory other && is_below to from_names) EINVAL) _ (tested _ EINVAL refl) (λ _.
+    either (Tame own.pid) (what.0 == other.0) _ _ (record { edits = tt; childless = refl }) (record { edits = (tt, tt); childless = refl }))))))))))
 tame_plan own (Mkdir path) is =
-    then_any (Tame own.pid) (parsed path) _ (parsed_any path) (λ names.
+    then_any (Tame own.pid) (parsed own.bounds.path_bytes path) _ (parsed_any own.bounds.path_bytes path) (λ names.
     then_any (Tame own.pid) (last_of own.root EEXIST names) _ (last_of_any own.root EEXIST names refl) (λ at.
     then_any (Tame own.pid) (absent at.found) _ (absent_any at.found) (λ _. record { edits = (tt, tt); childless = refl })))
 tame_plan own (Rmdir path) is =
-    then_any (Tame own.pid) (parsed path) _ (parsed_any path) (λ names.
+    then_any (Tame own.pid) (parsed own.bounds.path_bytes path) _ (parsed_any own.bounds.path_bytes path) (λ names.
     then_any (Tame own.pid) (last_of own.root EBUSY names) _ (last_of_any own.root EBUSY names refl) (λ at.
     then_any (Tame own.pid) (or_refuse ENOENT at.found) _ (found ENOENT at.found refl) (λ what.
     then_any (Tame own.pid) (refuse_if (not (is_directory what)) ENOTDIR) _ (tested _ ENOTDIR refl) (λ _ entries.
     then_any (Tame own.pid) (refuse_if (not (is_empty entries)) ENOTEMPTY) _ (tested _ ENOTEMPTY refl) (λ _. record { edits = (tt, tt); childless = refl })))))
 tame_plan own (List_directory path) is =
-    then_any (Tame own.pid) (parsed path) _ (parsed_any path) (λ names.
+    then_any (Tame own.pid) (parsed own.bounds.path_bytes path) _ (parsed_any own.bounds.path_bytes path) (λ names.
     then_any (Tame own.pid) (walk (own.root, Some A_directory) names) _ (walk_any _ names) (λ place.
     then_any (Tame own.pid) (refuse_if (is_link place) ELOOP) _ (tested _ ELOOP refl) (λ _.
     then_any (Tame own.pid) (refuse_if (not (is_directory place)) ENOTDIR) _ (tested _ ENOTDIR refl) (λ _ entries. record { edits = tt; childless = refl }))))
@@ -302,29 +339,29 @@ tame_plan own (Symlink target path) is =
     then_any (Tame own.pid) (refuse_if (is_empty target) ENOENT) _ (tested _ ENOENT refl) (λ _.
     then_any (Tame own.pid) (refuse_if (nat_lt target_limit (length target)) ENAMETOOLONG) _ (tested _ ENAMETOOLONG refl) (λ _.
     then_any (Tame own.pid) (refuse_if (list_any (λ b. b == 0) target) EINVAL) _ (tested _ EINVAL refl) (λ _.
-    then_any (Tame own.pid) (parsed path) _ (parsed_any path) (λ names.
+    then_any (Tame own.pid) (parsed own.bounds.path_bytes path) _ (parsed_any own.bounds.path_bytes path) (λ names.
     then_any (Tame own.pid) (last_of own.root EEXIST names) _ (last_of_any own.root EEXIST names refl) (λ at.
     then_any (Tame own.pid) (absent at.found) _ (absent_any at.found) (λ _. record { edits = (tt, tt); childless = refl }))))))
 tame_plan own (Readlink path) is =
-    then_any (Tame own.pid) (parsed path) _ (parsed_any path) (λ names.
+    then_any (Tame own.pid) (parsed own.bounds.path_bytes path) _ (parsed_any own.bounds.path_bytes path) (λ names.
     then_any (Tame own.pid) (walk (own.root, Some A_directory) names) _ (walk_any _ names) (λ place.
     then_any (Tame own.pid) (refuse_if (not (is_link place)) EINVAL) _ (tested _ EINVAL refl) (λ _ target. record { edits = tt; childless = refl })))
-tame_plan own (Lstat path) is = then_any (Tame own.pid) (parsed path) _ (parsed_any path) (λ names.
+tame_plan own (Lstat path) is = then_any (Tame own.pid) (parsed own.bounds.path_bytes path) _ (parsed_any own.bounds.path_bytes path) (λ names.
     then_any (Tame own.pid) (walk (own.root, Some A_directory) names) _ (walk_any _ names) (λ place. tame_status own.pid place))
 tame_plan own (Mknod path special) is =
-    then_any (Tame own.pid) (parsed path) _ (parsed_any path) (λ names.
+    then_any (Tame own.pid) (parsed own.bounds.path_bytes path) _ (parsed_any own.bounds.path_bytes path) (λ names.
     then_any (Tame own.pid) (last_of own.root EEXIST names) _ (last_of_any own.root EEXIST names refl) (λ at.
     then_any (Tame own.pid) (absent at.found) _ (absent_any at.found) (λ _. record { edits = (tt, tt); childless = refl })))
-tame_plan own (Chmod path permissions) is = then_any (Tame own.pid) (parsed path) _ (parsed_any path) (λ names.
+tame_plan own (Chmod path permissions) is = then_any (Tame own.pid) (parsed own.bounds.path_bytes path) _ (parsed_any own.bounds.path_bytes path) (λ names.
     then_any (Tame own.pid) (walk (own.root, Some A_directory) names) _ (walk_any _ names) (λ place.
     then_any (Tame own.pid) (refuse_if (is_link place) ELOOP) _ (tested _ ELOOP refl) (λ _ rights. record { edits = (tt, tt); childless = refl })))
-tame_plan own (Chown path owner) is = then_any (Tame own.pid) (parsed path) _ (parsed_any path) (λ names.
+tame_plan own (Chown path owner) is = then_any (Tame own.pid) (parsed own.bounds.path_bytes path) _ (parsed_any own.bounds.path_bytes path) (λ names.
     then_any (Tame own.pid) (walk (own.root, Some A_directory) names) _ (walk_any _ names) (λ place rights. record { edits = (tt, tt); childless = refl }))
 tame_plan own (Fchmod f permissions) is = then_any (Tame own.pid) (slot own f) _ (slot_any own f) (λ it rights. record { edits = (tt, tt); childless = refl })
 tame_plan own (Fchown f owner) is = then_any (Tame own.pid) (slot own f) _ (slot_any own f) (λ it rights. record { edits = (tt, tt); childless = refl })
 tame_plan own (Dup f) is = then_any (Tame own.pid) (slot own f) _ (slot_any own f) (λ it. tame_duplicated own it (free own))
 tame_plan own (Dup2 f g) is = then_any (Tame own.pid) (slot own f) _ (slot_any own f) (λ it.
-    then_any (Tame own.pid) (refuse_if (nat_lt 63 g) EBADF) _ (tested _ EBADF refl) (λ _. either (Tame own.pid) (f == g) _ _ (record { edits = tt; childless = refl }) (record { edits = (refl, tt); childless = refl })))
+    then_any (Tame own.pid) (refuse_if (nat_le (open_limit own) g) EBADF) _ (tested _ EBADF refl) (λ _. either (Tame own.pid) (f == g) _ _ (record { edits = tt; childless = refl }) (record { edits = (refl, tt); childless = refl })))
 tame_plan own Open_pipe is = tame_piped own (free own)
 tame_plan own Fork is = absurd (false≢true is)
 tame_plan own Exit is = absurd (false≢true is)

@@ -6,7 +6,7 @@ use Rattle.std.proofs.lemmas.Bool.{cases_Bool, cases_eq, false≢true}
 use Rattle.model.specs.FiniteMap.{get, insert, remove, get-remove}
 use Rattle.model.specs.State.{Kernel, Description, Process}
 use Rattle.model.specs.Plan.{Errno, EAGAIN, given, refuse_if, ◌>>◌}
-use Rattle.model.specs.Changes.{Edit, Make_directory, Make_file, Make_fixed, Name_file, Unname_file, Unname_directory, Move, Put_bytes, Cut, Take, Append, Set_offset, Set_rights, Open_inode, Make_pipe, Share_slot, Clear_slot, New_process, End_process, set_offset, process_of, or_new, with_slot, without_slot, applied, all_applied, tidy, number, Made, to_read, open_at, set_inode}
+use Rattle.model.specs.Changes.{Edit, Make_directory, Make_file, Make_fixed, Name_file, Unname_file, Unname_directory, Swap, Wipe, Move, Put_bytes, Cut, Take, Append, Set_offset, Set_rights, Open_inode, Make_pipe, Share_slot, Clear_slot, New_process, End_process, set_offset, process_of, or_new, with_slot, without_slot, applied, all_applied, tidy, number, Made, to_read, open_at, set_inode}
 use Rattle.model.specs.Calls.{own, Call, Fork, Exit, Answer, Child}
 use Rattle.model.specs.Plans.{Change, plan, changed, pipes_in}
 use Rattle.model.specs.Steps.{outcome, reply, reply_of, edits, edits_of}
@@ -61,7 +61,9 @@ edit_same chosen pid (Name_file d x n) k h alive = record { made = refl; alive =
 edit_same chosen pid (Unname_file d x n) k h alive = record { made = refl; alive = λ q. refl; priority = λ q. refl }
 edit_same chosen pid (Unname_directory d x n) k h alive = record { made = refl; alive = λ q. refl; priority = λ q. refl }
 edit_same chosen pid (Move d x e y n replaced) k h alive = record { made = refl; alive = λ q. refl; priority = λ q. refl }
+edit_same chosen pid (Swap d x n e y m) k h alive = record { made = refl; alive = λ q. refl; priority = λ q. refl }
 edit_same chosen pid (Put_bytes n place bytes before) k h alive = record { made = refl; alive = λ q. refl; priority = λ q. refl }
+edit_same chosen pid (Wipe n place count) k h alive = record { made = refl; alive = λ q. refl; priority = λ q. refl }
 edit_same chosen pid (Cut n before after) k h alive = record { made = refl; alive = λ q. refl; priority = λ q. refl }
 edit_same chosen pid (Take p count) k h alive = record { made = refl; alive = λ q. refl; priority = λ q. refl }
 edit_same chosen pid (Append p bytes) k h alive = record { made = refl; alive = λ q. refl; priority = λ q. refl }

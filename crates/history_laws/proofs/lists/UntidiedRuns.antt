@@ -6,7 +6,7 @@ use Rattle.std.proofs.lemmas.Bool.{cases_Bool, both_ways}
 use Rattle.model.specs.State.{Kernel}
 use Rattle.model.specs.Aspects.{Aspect, Names, Size, Block, Links, Ends, Keeps}
 use Rattle.model.specs.Plan.{blocks}
-use Rattle.model.specs.Changes.{Edit, Make_directory, Make_file, Make_fixed, Name_file, Unname_file, Unname_directory, Move, Put_bytes, Cut, Take, Append, Set_offset, Set_rights, Share_slot, Clear_slot, New_process, End_process, marks, all_applied, tidy, file_replaced}
+use Rattle.model.specs.Changes.{Edit, Make_directory, Make_file, Make_fixed, Name_file, Unname_file, Unname_directory, Swap, Wipe, Move, Put_bytes, Cut, Take, Append, Set_offset, Set_rights, Share_slot, Clear_slot, New_process, End_process, marks, all_applied, tidy, file_replaced}
 use Rattle.model.specs.Calls.{Call, own}
 use Rattle.model.specs.Steps.{Touch, reads, writes, reply, edits, touches, IsNowhere, CanBeChosen, Run}
 use Rattle.call_laws.specs.Objects.{IsThere, LeavesAlone}
@@ -194,7 +194,9 @@ no_names_marked (Name_file d x n) = (λ d e. absurd cc, (λ d e. absurd cc, tt))
 no_names_marked (Unname_file d x n) = (λ d e. absurd cc, (λ d e. absurd cc, tt))
 no_names_marked (Unname_directory d x n) = (λ d e. absurd cc, tt)
 no_names_marked (Move d x e y n replaced) = (λ d e. absurd cc, (λ d e. absurd cc, all_map Links (λ x d e. absurd cc) (file_replaced replaced)))
+no_names_marked (Swap d x n e y m) = (λ d e. absurd cc, (λ d e. absurd cc, tt))
 no_names_marked (Put_bytes n place bytes before) = append-all NotNames _ _ (optional (nat_lt before (place + length bytes)) n) (all_map (Block n) (λ x d e. absurd cc) (blocks place (length bytes)))
+no_names_marked (Wipe n place count) = all_map (Block n) (λ x d e. absurd cc) (blocks place count)
 no_names_marked (Cut n before after) = append-all NotNames _ _ (unless (before == after) n) (all_map (Block n) (λ x d e. absurd cc) (blocks after (before - after)))
 no_names_marked (Take p count) = (λ d e. absurd cc, tt)
 no_names_marked (Append p bytes) = (λ d e. absurd cc, tt)

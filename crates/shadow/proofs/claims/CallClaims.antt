@@ -7,7 +7,7 @@ use Rattle.std.proofs.lemmas.List.Sums.{sum_by-cons}
 use Rattle.ids.specs.declared.edit.Mode.{Mode}
 use Rattle.model.specs.State.{Fixed_content, Kernel, Name, Rights}
 use Rattle.model.specs.Changes.{Append, Clear_slot, Cut, Edit, Make_directory, Make_file, Make_fixed, Make_pipe, Open_inode, Take}
-use Rattle.model.specs.Changes.{Move, Name_file, Replaced, Share_slot, Unname_file}
+use Rattle.model.specs.Changes.{Move, Name_file, Replaced, Share_slot, Swap, Unname_file, Wipe}
 use Rattle.model.specs.Changes.{Put_bytes, Set_offset, Set_rights, Unname_directory, Which, all_applied}
 use Rattle.model.specs.Changes.{applied, news, tidy}
 use Rattle.call_laws.specs.Fits.{Fits, FitsAll}
@@ -17,12 +17,11 @@ use Rattle.shadow.specs.Claims.{claimed_by, claimed_by_one, claimed_in, kinds_in
 use Rattle.shadow.specs.Claims.{as_count, with_kinds}
 use Rattle.freeing_laws.specs.Counts.{times}
 use Rattle.shadow.specs.Committed.{Committed}
-use Rattle.shadow.specs.Log.{effect}
-use Rattle.shadow.specs.Steps.{CanEdit, IsFirst, IsLast, IsOne, new_in, parents_in}
-use Rattle.shadow.proofs.noting.EditCases.{by_one}
+use Rattle.notes.specs.Log.{effect}
+use Rattle.notes.specs.Steps.{CanEdit, IsFirst, IsLast, IsOne, new_in, parents_in}
+use Rattle.notes.proofs.Laws.{by_one, news_of_two}
 use Rattle.shadow.proofs.claims.EditClaims.{claimed_append, kinds_first, kinds_last, kinds_two, mine}
 use Rattle.shadow.proofs.claims.EditClaims.{no_more, none_claimed}
-use Rattle.shadow.proofs.shared.EditPairs.{news_of_two}
 use Rattle.shadow.proofs.edits.UnusedNumbers.{none_goes}
 
 abbrev ClaimsAlone : List ℕ → Edit → Type 0
@@ -63,7 +62,7 @@ all_others (m ∷ ms) n =
 claimed_alone : (chosen : List ℕ) (e : Edit) → IsOne e → ClaimsAlone chosen e
 claimed_alone chosen e one =
     by_one (ClaimsAlone chosen) directory file never_changing unnaming linking unlinking renaming put cut opening
-    moving clearing sharing taking appending piping setting e one
+    moving clearing sharing taking appending piping setting exchanging wiping e one
   where
     unnaming : (d : ℕ) (x : Name) (m : ℕ) → ClaimsAlone chosen (Unname_directory d x m)
     unnaming d x m (Room r) = refl
@@ -85,6 +84,17 @@ claimed_alone chosen e one =
     renaming d x e y m replaced (Room r) = refl
     renaming d x e y m replaced (New_directory n) = refl
     renaming d x e y m replaced (Number n) = refl
+
+    exchanging : (d : ℕ) (x : Name) (n e : ℕ) (y : Name) (m : ℕ)
+        → ClaimsAlone chosen (Swap d x n e y m)
+    exchanging d x n e y m (Room r) = refl
+    exchanging d x n e y m (New_directory q) = refl
+    exchanging d x n e y m (Number q) = refl
+
+    wiping : (m place count : ℕ) → ClaimsAlone chosen (Wipe m place count)
+    wiping m place count (Room r) = refl
+    wiping m place count (New_directory n) = refl
+    wiping m place count (Number n) = refl
 
     put : (m place : ℕ) (bytes : List ℕ) (before : ℕ)
         → ClaimsAlone chosen (Put_bytes m place bytes before)

@@ -7,12 +7,12 @@ use Rattle.std.proofs.lemmas.List.Sums.{sum_by-append, sum_by-cons}
 use Rattle.model.specs.Changes.{Edit, Make_directory, Make_file, Make_fixed, Make_pipe, Open_inode, news}
 use Rattle.model.specs.Moments.{is_in}
 use Rattle.model.specs.Steps.{AllDifferent}
-use Rattle.shadow.specs.declared.change.Made.{Made as What}
-use Rattle.shadow.specs.declared.change.Made.TheVariants.{Directory as Dir_made, File as File_made, Pipe as Pipe_made, Fixed as Fixed_made}
+use Rattle.notes.specs.declared.change.Made.{Made as What}
+use Rattle.notes.specs.declared.change.Made.TheVariants.{Directory as Dir_made, File as File_made, Pipe as Pipe_made, Fixed as Fixed_made}
 use Rattle.shadow.specs.Claims.{Claim, Room, New_directory, Number, as_count, claim_in, claimed_in, is_directory_made, is_file_made, kinds_in, with_kinds}
-use Rattle.shadow.specs.Patches.{Patches, is_new, net_at, opening_at}
-use Rattle.shadow.specs.Steps.{CanEdit, IsFirst, IsLast, IsOne, TakesAll, TakesIn, made_after, new_in, opened_in, parents_in}
-use Rattle.shadow.proofs.noting.EditCases.{by_one, first_cases, last_cases}
+use Rattle.notes.specs.Patches.{Patches, is_new, net_at, opening_at}
+use Rattle.notes.specs.Steps.{CanEdit, IsFirst, IsLast, IsOne, TakesAll, TakesIn, made_after, new_in, opened_in, parents_in}
+use Rattle.notes.proofs.Laws.{by_one, first_cases, last_cases}
 
 -- the new numbers of an edit with their kinds
 abbrev pub mine : List ℕ → Edit → List (ℕ × Bool)
@@ -101,6 +101,8 @@ directory_claim chosen e one = by_one (DirectoryClaim chosen)
     (λ p bytes n made unused. omega arith)
     (λ i pid f g n made unused. pipe_directory (new_in chosen i) (new_in chosen (i + 1)) (new_in chosen (i + 2)) n made unused.0)
     (λ m rights n made unused. omega arith)
+    (λ d x m e y q n made unused. omega arith)
+    (λ m place count n made unused. omega arith)
     e one
 
 -- another new number's claims
@@ -190,6 +192,8 @@ other_claim chosen e one = by_one (OtherClaim chosen)
     (λ p bytes three n made fresh unused. omega arith)
     (λ i pid f g three n made fresh unused. pipe_other (new_in chosen i) (new_in chosen (i + 1)) (new_in chosen (i + 2)) n made fresh three.0 three.1 three.2 unused.0 unused.1.0 unused.1.1.0)
     (λ m rights three n made fresh unused. omega arith)
+    (λ d x m e y q three n made fresh unused. omega arith)
+    (λ m place count three n made fresh unused. omega arith)
     e one
 
 each : {A : Type 0} {P Q : A → Type 0} (xs : List A) → ((x : A) → P x → Q x) → AllByRecursion P xs → AllByRecursion Q xs
@@ -263,6 +267,7 @@ first_each chosen P e first = first_cases (λ e. ((j : ℕ) → j < news e → P
     (λ p count h. tt) (λ p bytes h. tt)
     (λ i pid f g is h. (subst (λ j. P (get_or chosen j 0)) (sym is) (h 0 (omega arith)), (subst (λ j. P (get_or chosen (j + 1) 0)) (sym is) (h 1 (omega arith)), (subst (λ j. P (get_or chosen (j + 2) 0)) (sym is) (h 2 (omega arith)), tt))))
     (λ n rights h. tt)
+    (λ d x n e y m h. tt) (λ n place count h. tt)
     e first
 
 last_each : (chosen : List ℕ) (P : ℕ → Type 0) (m : ℕ) (e : Edit) → IsLast m e → (news e ≡ 1 → P (get_or chosen m 0)) → AllByRecursion (λ (z : ℕ × Bool). P z.0) (mine chosen e)
@@ -343,6 +348,8 @@ kinds_first chosen e first = first_cases (λ e. length chosen ≡ news e → wit
     (λ p bytes long. ap (λ ns. with_kinds ns []) (no_more chosen long))
     (λ i pid f g is long. three_kinds chosen i is long)
     (λ n rights long. ap (λ ns. with_kinds ns []) (no_more chosen long))
+    (λ d x n e y m long. ap (λ ns. with_kinds ns []) (no_more chosen long))
+    (λ n place count long. ap (λ ns. with_kinds ns []) (no_more chosen long))
     e first
 
 two_kinds : (directory : Bool) (chosen : List ℕ) (i : ℕ) → i ≡ 0 → (f : Edit) → IsLast 1 f → length chosen ≡ 1 + news f → with_kinds chosen (directory ∷ (kinds_in f ++ [])) ≡ (get_or chosen i 0, directory) ∷ (mine chosen f ++ [])
@@ -375,6 +382,8 @@ kinds_two chosen e f first = first_cases (λ e. IsLast (news e) f → length cho
     (λ p bytes last long. kinds_last 0 chosen chosen refl f last (long ∙ omega arith))
     (λ i pid s g is last long. pipe_kinds chosen i is f last long)
     (λ n rights last long. kinds_last 0 chosen chosen refl f last (long ∙ omega arith))
+    (λ d x n e y m last long. kinds_last 0 chosen chosen refl f last (long ∙ omega arith))
+    (λ n place count last long. kinds_last 0 chosen chosen refl f last (long ∙ omega arith))
     e first
 
 pub none_claimed : (c : Claim) → claimed_in c [] [] ≡ 0

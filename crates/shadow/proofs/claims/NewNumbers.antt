@@ -1,5 +1,5 @@
 -- New numbers of edits, with what is kept for them.
-use Rattle.std.proofs.Common.{Result, Ok, Err, OnOk, OnErr, ◌≡◌, ◌≢◌, ℕ, zero, suc, ◌+◌, ◌≤◌, ◌==◌, Bool, true, false, ◌&&◌, ◌||◌, not, cond, List, [], ◌∷◌, ◌++◌, length, replicate, drop, sum_by, flat_map, Some, None, refl, sym, ap, subst, ◌∙◌, arith, eqb-true, inl, inr}
+use Rattle.std.proofs.Common.{Result, Ok, Err, OnOk, OnErr, ◌≡◌, ◌≢◌, ℕ, zero, suc, ◌+◌, ◌≤◌, ◌==◌, Bool, true, false, ◌&&◌, ◌||◌, not, cond, List, [], ◌∷◌, ◌++◌, length, replicate, drop, sum_by, flat_map, None, refl, sym, ap, subst, ◌∙◌, arith, eqb-true, inl, inr}
 use Rattle.std.specs.List.{AllByRecursion}
 use Rattle.std.proofs.lemmas.List.{length-append}
 use Rattle.std.proofs.lemmas.List.Sums.{sum_by-append, sum_by-cons}
@@ -14,10 +14,9 @@ use Rattle.model.proofs.Laws.{append-all}
 use Rattle.call_laws.proofs.Laws.{all-mapped}
 use Rattle.freeing_laws.specs.Counts.{listed, times}
 use Rattle.shadow.specs.Committed.{Committed, Reserve}
-use Rattle.shadow.specs.Claims.{AreAdded, AreUnused, Claim, Room, New_directory, Number, HasParent, HaveClaimed, HaveParents, IsClaimed, IsDirectory, IsReserved, KeepsMore, KeepsSame, claimed_by, claimed_in, kinds_in, number_as, number_of, reserved, room_in, room_of, with_kinds, or_zero, coming_directory, coming_other}
-use Rattle.shadow.specs.Log.{effect}
+use Rattle.shadow.specs.Claims.{AreAdded, AreUnused, Claim, Room, New_directory, Number, HasParent, HaveClaimed, HaveParents, IsClaimed, IsDirectory, IsReserved, KeepsMore, KeepsSame, claimed_in, kinds_in, number_as, number_of, reserved, room_in, room_of, with_kinds, or_zero, coming_directory, coming_other}
 use Rattle.shadow.proofs.claims.EditClaims.{apart_at}
-use Rattle.shadow.specs.Steps.{AreApart, CanEdit, IsFirst, IsLast, new_in, parents_in}
+use Rattle.notes.specs.Steps.{AreApart, CanEdit, IsFirst, IsLast, new_in, parents_in}
 
 append_nil : {X : Type 0} (xs : List X) → xs ++ [] ≡ xs
 append_nil [] = refl
@@ -223,25 +222,9 @@ pub apart_from : (s t : Committed) (es : List Edit) (chosen : List ℕ) → CanE
 apart_from s t es chosen can has have = all_apart s.reserves chosen (all-mapped chosen (λ n h. h.0) have.unused) have.different es can has have.count
 
 -- the parents of edits are directories
-parents_all : (reserves : FinMap nat_cmp Reserve) (es : List Edit) → HaveParents reserves es → AllByRecursion (IsDirectory reserves) (flat_map parents_in es)
+pub parents_all : (reserves : FinMap nat_cmp Reserve) (es : List Edit) → HaveParents reserves es → AllByRecursion (IsDirectory reserves) (flat_map parents_in es)
 parents_all reserves [] has = tt
 parents_all reserves (e ∷ es) has = subst (AllByRecursion (IsDirectory reserves)) (sym (flat_map-cons parents_in e es)) (append-all (IsDirectory reserves) (parents_in e) (flat_map parents_in es) has.0 (parents_all reserves es has.1))
-
-pub parent_is : (reserves : FinMap nat_cmp Reserve) (es : List Edit) (d : ℕ) → HaveParents reserves es → listed (Some d) ≡ flat_map parents_in es → IsDirectory reserves d
-parent_is reserves es d has is = (subst (AllByRecursion (IsDirectory reserves)) (sym is) (parents_all reserves es has)).0
-
--- what is kept for edits, with the room of a name and without
-pub kept_alone : (s t : Committed) (es : List Edit) (chosen : List ℕ) → listed None ≡ flat_map parents_in es → HaveClaimed s t es chosen → KeepsMore s t (λ c. claimed_by c (effect chosen es))
-kept_alone s t es chosen is have c = have.kept c ∙ ap (λ parents. reserved s c + claimed_in c (with_kinds chosen (flat_map kinds_in es)) parents) is
-
-pub kept_with : (s t u : Committed) (es : List Edit) (chosen : List ℕ) (d : ℕ) → listed (Some d) ≡ flat_map parents_in es → HaveClaimed s t es chosen → KeepsMore t u (room_in d) → KeepsMore s u (λ c. claimed_by c (effect chosen es))
-kept_with s t u es chosen d is have more c =
-    let ms = with_kinds chosen (flat_map kinds_in es) in
-    let first : reserved t c ≡ reserved s c + claimed_in c (with_kinds chosen (flat_map kinds_in es)) [] = have.kept c in
-    let second : reserved u c ≡ reserved t c + room_in d c = more c in
-    let both : claimed_in c (with_kinds chosen (flat_map kinds_in es)) (d ∷ []) ≡ claimed_in c (with_kinds chosen (flat_map kinds_in es)) [] + room_in d c = parent_claimed c (with_kinds chosen (flat_map kinds_in es)) d in
-    let sum : reserved u c ≡ reserved s c + claimed_in c (with_kinds chosen (flat_map kinds_in es)) (d ∷ []) = omega arith in
-    sum ∙ ap (λ parents. reserved s c + claimed_in c ms parents) is
 
 -- they can be given up again
 pub may_release_claims : (s t : Committed) (es : List Edit) (chosen : List ℕ) → HaveClaimed s t es chosen → (bs : List Bool) × ((c : Claim) → claimed_in c (with_kinds chosen bs) (listed None) ≤ reserved t c)

@@ -10,15 +10,14 @@ use Rattle.std.proofs.lemmas.Bool.{cases_eq}
 use Rattle.model.specs.FiniteMap.{nat_cmp-IsAntisymmetric}
 use Rattle.std.proofs.Math.Nat.{suc-mul}
 use Rattle.model.proofs.Laws.{tie}
-use Rattle.freeing_laws.specs.Counts.{listed}
-use Rattle.shadow.specs.declared.change.InodeChange.{InodeChange}
-use Rattle.shadow.specs.declared.change.Made.{Made}
-use Rattle.shadow.specs.declared.change.Made.TheVariants.{Directory, File, Pipe, Fixed}
-use Rattle.shadow.specs.declared.opening.Opening.{Opening}
+use Rattle.notes.specs.declared.change.InodeChange.{InodeChange}
+use Rattle.notes.specs.declared.change.Made.{Made}
+use Rattle.notes.specs.declared.change.Made.TheVariants.{Directory, File, Pipe, Fixed}
+use Rattle.notes.specs.declared.opening.Opening.{Opening}
 use Rattle.shadow.specs.Committed.{Committed}
-use Rattle.shadow.specs.Patches.{Net, Patches, is_new, kept_at, net_of, or_kept}
+use Rattle.notes.specs.Patches.{Net, Patches, is_new, kept_at, net_of, or_kept}
 use Rattle.shadow.specs.Claims.{Claim, Room, New_directory, Number, IsComing, KeepsMore, as_count, claim_in, claimed_in, inode_claim, inodes_claim, is_directory_made, is_file_made, new_number, number_as, number_of, openings_claim, reserved, room_in, with_kinds}
-use Rattle.shadow.proofs.claims.NewNumbers.{none_claimed, one_claimed, parent_claimed, without_parents}
+use Rattle.shadow.proofs.claims.NewNumbers.{none_claimed, one_claimed, without_parents}
 use Rattle.shadow.proofs.claims.ClaimCounts.{number_counts}
 
 -- numbers with their kinds
@@ -86,20 +85,6 @@ module _ (start now : Committed) (all parents : List ℕ) (gives : GivesNumbers 
   given_kept bs are c =
       let sum : reserved start c + claimed_in c (with_kinds [] (gives.left bs are).kinds) [] ≡ reserved now c + claimed_in c (with_kinds all bs) [] = (gives.left bs are).kept c in
       let none : claimed_in c (with_kinds [] (gives.left bs are).kinds) [] ≡ 0 = none_claimed c in omega arith
-
-module _ (start now : Committed) (all : List ℕ) (d : ℕ) (gives : GivesNumbers start now all (listed (Some d)) []) where
-  pub room_left : (bs : List Bool) × AreKept start all (listed (Some d)) bs → 0 < reserved now (Room d)
-  room_left some =
-      let all_of : reserved start (Room d) ≡ reserved now (Room d) + claimed_in (Room d) (with_kinds all some.0) [] = given_kept start now all (listed (Some d)) gives some.0 some.1 (Room d) in
-      let with_it : claimed_in (Room d) (with_kinds all some.0) (d ∷ []) ≡ claimed_in (Room d) (with_kinds all some.0) [] + room_in d (Room d) = parent_claimed (Room d) (with_kinds all some.0) d in
-      let one : room_in d (Room d) ≡ 1 = ap as_count (eq-eqb d d refl) in
-      let there : claimed_in (Room d) (with_kinds all some.0) (d ∷ []) ≤ reserved start (Room d) = some.1 (Room d) in omega arith
-
-  pub given_with_room : (after : Committed) → KeepsMore after now (room_in d) → (bs : List Bool) → AreKept start all (listed (Some d)) bs → KeepsMore after start (λ c. claimed_in c (with_kinds all bs) (listed (Some d)))
-  given_with_room after less bs are c =
-      let all_of : reserved start c ≡ reserved now c + claimed_in c (with_kinds all bs) [] = given_kept start now all (listed (Some d)) gives bs are c in
-      let with_it : claimed_in c (with_kinds all bs) (d ∷ []) ≡ claimed_in c (with_kinds all bs) [] + room_in d c = parent_claimed c (with_kinds all bs) d in
-      let room : reserved now c ≡ reserved after c + room_in d c = less c in omega arith
 
 -- what the changes of one inode claim, in parts
 abbrev pub kind_made : Made → Bool

@@ -1,9 +1,9 @@
 -- A new description is given back, and one that is not new claims nothing.
 use Rattle.std.proofs.Common.{◌≡◌, ℕ, ◌≤◌, ◌<◌, cond, true, false, List, ◌∷◌, Some, refl, ap, subst, arith}
-use Rattle.shadow.specs.declared.opening.Opening.{Opening}
+use Rattle.notes.specs.declared.opening.Opening.{Opening}
 use Rattle.shadow.specs.Claims.{Claim, KeepsMore, new_number, number_as, openings_claim, reserved}
 use Rattle.shadow.specs.Committed.{Committed}
-use Rattle.shadow.specs.Patches.{is_new}
+use Rattle.notes.specs.Patches.{is_new}
 use Rattle.shadow.proofs.claims.ReleasedClaims.{GivesUp, gives_up_next, new_here, nothing_opened, old_here, one_kept, opened_at, openings_at}
 use Rattle.shadow.proofs.claims.ClaimCounts.{no_number_as}
 

@@ -11,7 +11,7 @@ use Rattle.shadow.specs.Agrees.{Agrees}
 use Rattle.shadow.specs.Claims.{Claim, Covers, KeepsMore, claimed}
 use Rattle.shadow.specs.Committed.{Committed}
 use Rattle.shadow.specs.Laid.{AreReopened, AreReslotted, Frees, Holds, given_in, kept_in}
-use Rattle.shadow.specs.Patches.{Patches}
+use Rattle.notes.specs.Patches.{Patches}
 use Rattle.shadow.specs.Stored.{Processes, Sound, committed_of, state_of}
 use Rattle.shadow.proofs.committing.TidiedState.{cleared}
 use Rattle.shadow.proofs.committing.CommitStates.{AreCarried, CanCommit, HasAll, HasInodes}
@@ -40,14 +40,21 @@ module _ {ps : Processes} {s mid : Numbers} {ds : List Effect} {p : Patches}
       let same = same_where_new can d new in
       (to_come can d new, same.0, same.1)) inodes
 
-  module _ {qs : Processes} {after last : Numbers} {former : List (ℕ × Given)}
-      (openings : AreReopened p.openings mid after)
-      (slots : AreReslotted p.slots former ps qs after last) where
+  module _ {qs : Processes} {after last : Numbers} {noted former : List (ℕ × Given)}
+      (openings : AreReopened p.openings mid after) (each : noted ≡ p.slots)
+      (laid : AreReslotted noted former ps qs after last) where
+    slots : AreReslotted p.slots former ps qs after last
+    slots = subst (λ es. AreReslotted es former ps qs after last) each laid
+
     pub has_all : HasAll ps qs s last ds
     has_all = finished can has_inodes openings slots
 
-    module _ {one : Numbers} (first : (rs : Processes) → Holds rs last
-        → Frees (all_closed (given_in former)) rs last one) where
+    module _ {one : Numbers} {closed : List (ℕ × Given)} (all_of : closed ≡ former)
+        (closes : (rs : Processes) → Holds rs last
+        → Frees (all_closed (given_in closed)) rs last one) where
+      first : (rs : Processes) → Holds rs last → Frees (all_closed (given_in former)) rs last one
+      first = subst (λ es. (rs : Processes) → Holds rs last → Frees (all_closed (given_in es)) rs last one) all_of closes
+
       pub holds_first : Holds qs one
       holds_first = (first qs has_all.holds).holds
 

@@ -13,11 +13,11 @@ use Rattle.store.specs.Shown.{descriptions}
 use Rattle.store.specs.declared.Object.TheVariants.{Nothing}
 use Rattle.shadow.specs.Stored.{Processes, state_of}
 use Rattle.shadow.specs.Committed.{Reserve}
-use Rattle.shadow.specs.declared.opening.Opening.{Opening}
-use Rattle.shadow.specs.declared.opening.Opening.TheVariants.{Kept}
-use Rattle.shadow.specs.Patches.{is_new, opening_at, or_kept, reopened}
+use Rattle.notes.specs.declared.opening.Opening.{Opening}
+use Rattle.notes.specs.declared.opening.Opening.TheVariants.{Kept}
+use Rattle.notes.specs.Patches.{is_new, opening_at, or_kept, reopened}
 use Rattle.shadow.specs.Laid.{AreReopened, IsReopened, reserves_of, settled}
-use Rattle.shadow.proofs.shared.SortedKeys.{first_absent, first_kept, later_kept, rest_sorted}
+use Rattle.notes.proofs.Laws.{first_absent, first_kept, later_kept, rest_sorted}
 
 -- what is new is still to come
 abbrev pub AreToCome : List (ℕ × Opening) → Numbers → Type 0

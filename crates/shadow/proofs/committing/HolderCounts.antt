@@ -191,6 +191,7 @@ held_none_less s = held_still (IsOneLess None) s (λ d opened is. omega arith)
 -- where the count is full already
 pub held_full : (s : Numbers) (d : ℕ) → 2 ^ 128 ≤ holders_at s d + 1 → AreHeld (IsOneMore (Some d)) s s
 held_full s d full = held_still (IsOneMore (Some d)) s (λ e opened is fits. elim (cases_eq e d) [
-  | inl at ↦ absurd (let count : holders_at s d ≡ opened.holders = ap (holders_at s) (sym at) ∙ shown_count (get s.places e) opened is in omega arith)
+  | inl at ↦ absurd (let count : holders_at s d ≡ opened.holders = ap (holders_at s) (sym at) ∙ shown_count (get s.places e) opened is in
+      let one : times e (d ∷ []) ≡ 1 = ap (λ e. times e (d ∷ [])) at ∙ once_here d in omega arith)
   | inr other ↦ (let none : times e (d ∷ []) ≡ 0 = never_there d e other in omega arith)
 ])

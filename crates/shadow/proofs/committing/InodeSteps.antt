@@ -17,12 +17,12 @@ use Rattle.store.specs.declared.Stage.{Stage}
 use Rattle.store.specs.declared.Stage.TheVariants.{Coming, Held, Removed}
 use Rattle.store.specs.declared.Object.TheVariants.{Directory as A_directory}
 use Rattle.store.proofs.Laws.{MayBeNamed, altered-alike, altered-same, left-altered, place-altered, place-other}
-use Rattle.shadow.specs.declared.change.InodeChange.{InodeChange}
-use Rattle.shadow.specs.declared.change.Contents.{Contents}
-use Rattle.shadow.specs.declared.change.Contents.TheVariants.{Same, Names, Bytes, Pipe as Piped, Fixed as As_fixed}
-use Rattle.shadow.specs.Patches.{kept_at}
+use Rattle.notes.specs.declared.change.InodeChange.{InodeChange}
+use Rattle.notes.specs.declared.change.Contents.{Contents}
+use Rattle.notes.specs.declared.change.Contents.TheVariants.{Same, Names, Bytes, Pipe as Piped, Fixed as As_fixed}
+use Rattle.notes.specs.Patches.{kept_at}
 use Rattle.shadow.specs.Laid.{AreReady, IsCarried, IsCarriedBy, IsReady, IsReadyContents, IsReadyDirectory, IsReadyFile, IsReadyPipe, named_by, shown_if}
-use Rattle.shadow.proofs.shared.SortedKeys.{first_absent, first_kept, later_kept, not_first, rest_sorted}
+use Rattle.notes.proofs.Laws.{first_absent, first_kept, later_kept, not_first, rest_sorted}
 
 -- what is shown from now on may be named as before
 made_named : (made : Bool) (place : Place) → may_be_named (Some (shown_if made place)) ≡ may_be_named (Some place)

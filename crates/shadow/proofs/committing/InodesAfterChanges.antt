@@ -14,14 +14,14 @@ use Rattle.store.specs.declared.OpenPipe.{OpenPipe}
 use Rattle.store.specs.declared.Place.{Place}
 use Rattle.store.specs.declared.Object.TheVariants.{Pipe as Kept_pipe, Nothing}
 use Rattle.store.proofs.Laws.{get-descriptions, get-inodes}
-use Rattle.shadow.specs.declared.change.InodeChange.{InodeChange}
-use Rattle.shadow.specs.declared.change.Contents.{Contents}
-use Rattle.shadow.specs.declared.change.Contents.TheVariants.{Same, Names, Bytes, Pipe as Piped, Fixed as As_fixed}
-use Rattle.shadow.specs.declared.change.Made.{Made}
+use Rattle.notes.specs.declared.change.InodeChange.{InodeChange}
+use Rattle.notes.specs.declared.change.Contents.{Contents}
+use Rattle.notes.specs.declared.change.Contents.TheVariants.{Same, Names, Bytes, Pipe as Piped, Fixed as As_fixed}
+use Rattle.notes.specs.declared.change.Made.{Made}
 use Rattle.shadow.specs.Agrees.{IsOver}
 use Rattle.shadow.specs.Claims.{Claim, New_directory, Number, Room, claim_in, claimed, inodes_claim, number_of, reserved}
 use Rattle.shadow.specs.Laid.{AreReady, IsCarried, IsCarriedBy, IsReadyContents, kept_in}
-use Rattle.shadow.specs.Patches.{Patches, form_of, is_new, kept_at, net_at, net_of, opening_at, patched}
+use Rattle.notes.specs.Patches.{Patches, form_of, is_new, kept_at, net_at, net_of, opening_at, patched}
 use Rattle.shadow.specs.Stored.{AreCounted, Processes, committed_of, state_of}
 use Rattle.shadow.proofs.committing.PlaceAfterChanges.{Becomes, bytes_become, claim_of, fixed_comes, inode_seen, names_become, pipe_become, pipe_comes, stays_as_it_is}
 use Rattle.shadow.proofs.committing.CommitStates.{AreCarried, CanCommit, HasInodes}

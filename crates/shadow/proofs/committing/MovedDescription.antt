@@ -19,7 +19,7 @@ use Rattle.store.specs.declared.Object.TheVariants.{Directory as A_directory, Fi
 use Rattle.store.specs.declared.Object.TheVariants.{Description as A_description, Nothing}
 use Rattle.store.proofs.Laws.{descriptions-moved, inodes-opened, left-altered, place-other}
 use Rattle.shadow.specs.Stored.{AreCounted, Processes, reserve_in, state_of, stored}
-use Rattle.shadow.specs.declared.opening.Opening.TheVariants.{Moved}
+use Rattle.notes.specs.declared.opening.Opening.TheVariants.{Moved}
 use Rattle.shadow.specs.Laid.{IsReopened, reserves_of}
 use Rattle.shadow.proofs.shared.SoundnessLemmas.{counted_by, counts_of, counts_of_state, counts_stay, holders_seen}
 use Rattle.shadow.proofs.shared.SoundnessLemmas.{openings_seen}

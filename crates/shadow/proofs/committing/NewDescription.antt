@@ -24,7 +24,7 @@ use Rattle.store.proofs.Laws.{get-inodes_by, inodes-filed, inodes-set, place-alt
 use Rattle.store.proofs.Laws.{remove-absent, with_place}
 use Rattle.shadow.specs.Stored.{AreCounted, IsEndHere, IsStaged, Processes, reserve_in, state_of}
 use Rattle.shadow.specs.Stored.{stored}
-use Rattle.shadow.specs.declared.opening.Opening.TheVariants.{New}
+use Rattle.notes.specs.declared.opening.Opening.TheVariants.{New}
 use Rattle.shadow.specs.Laid.{IsReopened, reserves_of, settled}
 use Rattle.shadow.proofs.edits.NewInodes.{place_staged}
 use Rattle.shadow.proofs.shared.PipePairLemmas.{pair_comes, pipe_by_file, pipe_stood, same_pairs, shown_pipe}

@@ -4,7 +4,7 @@ use Rattle.std.proofs.lemmas.Bool.{cases_eq}
 use Rattle.model.specs.FiniteMap.{empty, get}
 use Rattle.model.specs.Limits.{capacity}
 use Rattle.model.specs.State.{Directory, File, Fixed, Inode, Kernel, Pipe, pipe_of, pipe_of_inode}
-use Rattle.model.specs.Changes.{Edit, Made, Make_directory, Make_file, Make_fixed, Name_file, Unname_file, Unname_directory, Move, Put_bytes, Cut, Take, Append, Set_offset, Set_rights, Open_inode, Make_pipe, Share_slot, Clear_slot, New_process, End_process, all_applied, applied, clear_name, number, set_inode}
+use Rattle.model.specs.Changes.{Edit, Made, Make_directory, Make_file, Make_fixed, Name_file, Unname_file, Unname_directory, Move, Put_bytes, Cut, Take, Append, Set_offset, Set_rights, Open_inode, Make_pipe, Share_slot, Clear_slot, New_process, End_process, Swap, Wipe, all_applied, applied, clear_name, number, set_inode, set_name}
 use Rattle.model.specs.Effects.{Effect, all_done}
 use Rattle.model.proofs.Laws.{get_same, get_other}
 use Rattle.call_laws.specs.Fits.{Fits, FitsAll}
@@ -35,6 +35,8 @@ module _ (p : ℕ) where
   one chosen k (Unname_directory d x n) f short = set_short k d _ (none d) short
   one chosen k (Move d x e y n replaced) f short = set_short (clear_name d x k) e _ (none e) (set_short k d _ (none d) short)
   one chosen k (Put_bytes n place bytes before) f short = set_short k n _ (none n) short
+  one chosen k (Wipe n place count) f short = set_short k n _ (none n) short
+  one chosen k (Swap d x n e y m) f short = set_short (set_name d x m k) e _ (none e) (set_short k d _ (none d) short)
   one chosen k (Cut n before after) f short = set_short k n _ (none n) short
   one chosen k (Take q count) f short = set_short k q (Pipe (drop count (pipe_of k q))) (λ same.
       let less : length (drop count (pipe_of k q)) ≡ length (pipe_of k q) - count = length-drop count (pipe_of k q) in

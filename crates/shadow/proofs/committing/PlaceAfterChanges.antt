@@ -19,14 +19,14 @@ use Rattle.store.specs.declared.OpenFile.{OpenFile}
 use Rattle.store.specs.declared.OpenPipe.{OpenPipe}
 use Rattle.store.specs.declared.Place.{Place}
 use Rattle.store.specs.declared.Object.TheVariants.{Directory as Kept_directory, File as Kept_file, Pipe as Kept_pipe, Fixed as Kept_fixed, Nothing}
-use Rattle.shadow.specs.declared.change.Contents.{Contents}
-use Rattle.shadow.specs.declared.change.Contents.TheVariants.{Same, Names, Bytes, Pipe as Piped, Fixed as As_fixed}
-use Rattle.shadow.specs.declared.change.Made.{Made}
-use Rattle.shadow.specs.declared.change.Made.TheVariants.{Directory as New_one, File as New_file, Pipe as New_pipe, Fixed as New_fixed}
+use Rattle.notes.specs.declared.change.Contents.{Contents}
+use Rattle.notes.specs.declared.change.Contents.TheVariants.{Same, Names, Bytes, Pipe as Piped, Fixed as As_fixed}
+use Rattle.notes.specs.declared.change.Made.{Made}
+use Rattle.notes.specs.declared.change.Made.TheVariants.{Directory as New_one, File as New_file, Pipe as New_pipe, Fixed as New_fixed}
 use Rattle.shadow.specs.Agrees.{IsOver}
 use Rattle.shadow.specs.Claims.{Claim, New_directory, Number, Room, as_count, is_directory_made, is_file_made, number_of}
 use Rattle.shadow.specs.Laid.{IsPassedOver, IsReadyFile, IsWrittenOver, bytes_in, named_by, shown_if}
-use Rattle.shadow.specs.Patches.{new_ends, of_bytes, of_fixed, of_names, of_pipe, patched}
+use Rattle.notes.specs.Patches.{new_ends, of_bytes, of_fixed, of_names, of_pipe, patched}
 use Rattle.shadow.specs.Stored.{IsStaged}
 use Rattle.shadow.proofs.shared.SoundnessLemmas.{holders_seen, openings_seen}
 use Rattle.shadow.proofs.freeing.RemainingPlaces.{kept_by}

@@ -10,12 +10,12 @@ use Rattle.fdtable.specs.Patches.{Given}
 use Rattle.freeing_laws.specs.Counts.{times}
 use Rattle.store.specs.Numbers.{Numbers}
 use Rattle.shadow.specs.Stored.{Processes, numbered}
-use Rattle.shadow.specs.Patches.{kept_at, reslotted, slots_in}
-use Rattle.shadow.specs.Openings.{AreOnce}
+use Rattle.notes.specs.Patches.{kept_at, reslotted, slots_in}
+use Rattle.notes.specs.Openings.{AreOnce}
 use Rattle.shadow.specs.Laid.{AreReslotted, IsReslotted, SlotsStay, given_by, given_in, table_in}
-use Rattle.shadow.proofs.noting.DistinctProcesses.{key_at, kept_its, none_ahead, once_set, patch_at}
-use Rattle.shadow.proofs.noting.SlotLemmas.{Entries, pushed_other, pushed_same}
-use Rattle.shadow.proofs.committing.TableSteps.{stays_on, stays_still, still_there, times_both}
+use Rattle.notes.proofs.Laws.{Entries, kept_its, key_at, none_ahead, once_set, patch_at, pushed_other, pushed_same}
+use Rattle.shadow.proofs.committing.SlotSteps.{times_both}
+use Rattle.shadow.proofs.committing.TableSteps.{stays_on, stays_still, still_there}
 
 -- the changes of the processes at places below i are made
 pub record Lays (i : ℕ) (es now : Entries) (ps qs : Processes) (old new : Numbers) : Type 0 where

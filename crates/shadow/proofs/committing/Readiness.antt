@@ -39,17 +39,17 @@ use Rattle.shadow.specs.Claims.{is_file_made, or_zero, reserved, room_of}
 use Rattle.shadow.specs.Committed.{Committed, Reserve}
 use Rattle.shadow.specs.Laid.{AreReady, IsCarried, IsCarriedBy, IsReadyContents}
 use Rattle.shadow.specs.Laid.{IsReadyDirectory, IsReadyFile, IsReadyPipe, reserves_of, shown_if}
-use Rattle.shadow.specs.Patches.{Net, Patches, added_by, form_of, is_new, kept_at}
-use Rattle.shadow.specs.Patches.{names_before, net_at, net_of, no_change, of_bytes, of_fixed, of_names}
-use Rattle.shadow.specs.Patches.{of_pipe}
-use Rattle.shadow.specs.Patches.{opening_at, patched, pipe_before, slots_in}
+use Rattle.notes.specs.Patches.{Net, Patches, added_by, form_of, is_new, kept_at}
+use Rattle.notes.specs.Patches.{names_before, net_at, net_of, no_change, of_bytes, of_fixed, of_names}
+use Rattle.notes.specs.Patches.{of_pipe}
+use Rattle.notes.specs.Patches.{opening_at, patched, pipe_before, slots_in}
 use Rattle.shadow.specs.Stored.{IsStaged, Processes, Sound, committed_of, numbered, reserve_in}
 use Rattle.shadow.specs.Stored.{state_of}
-use Rattle.shadow.specs.declared.change.InodeChange.{InodeChange}
-use Rattle.shadow.specs.declared.change.Contents.{Contents}
-use Rattle.shadow.specs.declared.change.Contents.TheVariants.{Same, Names, Bytes, Pipe as Piped, Fixed as As_fixed}
-use Rattle.shadow.specs.declared.change.Made.{Made}
-use Rattle.shadow.specs.declared.change.Made.TheVariants.{Directory, File as New_file, Pipe as New_pipe, Fixed as New_fixed}
+use Rattle.notes.specs.declared.change.InodeChange.{InodeChange}
+use Rattle.notes.specs.declared.change.Contents.{Contents}
+use Rattle.notes.specs.declared.change.Contents.TheVariants.{Same, Names, Bytes, Pipe as Piped, Fixed as As_fixed}
+use Rattle.notes.specs.declared.change.Made.{Made}
+use Rattle.notes.specs.declared.change.Made.TheVariants.{Directory, File as New_file, Pipe as New_pipe, Fixed as New_fixed}
 use Rattle.shadow.proofs.committing.CommitStates.{CanCommit}
 use Rattle.shadow.proofs.committing.PipeLengths.{stays_short}
 use Rattle.shadow.proofs.shared.FixedKinds.{no_directory, no_file, no_pipe}

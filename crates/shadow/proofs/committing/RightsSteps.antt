@@ -21,17 +21,17 @@ use Rattle.store.specs.Shown.{inodes}
 use Rattle.store.specs.declared.Place.{Place}
 use Rattle.store.specs.declared.Object.TheVariants.{Directory as Kept_directory}
 use Rattle.store.proofs.Laws.{get-inodes}
-use Rattle.shadow.specs.declared.change.InodeChange.{InodeChange}
-use Rattle.shadow.specs.declared.change.Contents.{Contents}
-use Rattle.shadow.specs.declared.change.Contents.TheVariants.{Same, Names, Bytes, Pipe as Piped}
-use Rattle.shadow.specs.declared.change.Contents.TheVariants.{Fixed as As_fixed}
+use Rattle.notes.specs.declared.change.InodeChange.{InodeChange}
+use Rattle.notes.specs.declared.change.Contents.{Contents}
+use Rattle.notes.specs.declared.change.Contents.TheVariants.{Same, Names, Bytes, Pipe as Piped}
+use Rattle.notes.specs.declared.change.Contents.TheVariants.{Fixed as As_fixed}
 use Rattle.shadow.specs.Laid.{AreReady, AreRevised, CanBeSet, CanBeSetThen, IsCarried, IsCarriedBy}
 use Rattle.shadow.specs.Laid.{IsReady, IsReadyContents, named_by, shown_if}
-use Rattle.shadow.specs.Patches.{Patches, kept_at, net_at, net_of, patched, rights_over}
+use Rattle.notes.specs.Patches.{Patches, kept_at, net_at, net_of, patched, rights_over}
 use Rattle.shadow.specs.Stored.{Processes, state_of}
 use Rattle.shadow.proofs.committing.CommitStates.{CanCommit}
 use Rattle.shadow.proofs.committing.PlaceAfterChanges.{inode_seen}
-use Rattle.shadow.proofs.shared.SortedKeys.{first_absent, first_kept, later_kept, rest_sorted}
+use Rattle.notes.proofs.Laws.{first_absent, first_kept, later_kept, rest_sorted}
 
 abbrev pub with_rights : Numbers → ℕ → Rights → Numbers
 with_rights s n rights = record s { rights = insert s.rights n rights }

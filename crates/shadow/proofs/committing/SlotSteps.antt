@@ -1,14 +1,16 @@
 -- One slot of a process gives another description: the processes, and how often each is held.
-use Rattle.std.proofs.Common.{◌≡◌, ◌≢◌, ℕ, zero, suc, ◌+◌, ◌*◌, ◌-◌, ◌<◌, ◌≤◌, ◌^◌, Bool, true, false, cond, List, [], ◌∷◌, length, Option, Some, None, nat_cmp, refl, sym, ap, subst, ◌∙◌, arith, inl, inr}
+use Rattle.std.proofs.Common.{◌≡◌, ◌≢◌, ℕ, zero, suc, ◌+◌, ◌*◌, ◌-◌, ◌<◌, ◌≤◌, ◌^◌, Bool, true, false, cond, List, [], ◌∷◌, ◌++◌, ◌==◌, length, Option, Some, None, nat_cmp, refl, sym, ap, subst, ◌∙◌, arith, inl, inr}
 use Rattle.std.specs.List.{AllByRecursion}
 use Rattle.std.specs.Cmp.{nat_cmp_total}
 use Rattle.std.proofs.lemmas.Bool.{cases_eq, cases_lt}
+use Rattle.std.proofs.lemmas.List.Sums.{sum_by-append, sum_by-cons}
 use Rattle.std.proofs.lemmas.List.{get_or-set_other, get_or-set_same, length-set}
 use Rattle.ids.specs.declared.limits.TheConstants.{DESCRIPTORS}
 use Rattle.model.specs.FiniteMap.{FinMap, contains_key, entries, get, insert, len, len-entries, len_before_remove, remove, same_map, nat_cmp-IsAntisymmetric}
 use Rattle.model.specs.State.{Kernel, Process}
 use Rattle.model.specs.Changes.{holders, or_new, set_process, with_slot, without_slot}
 use Rattle.model.proofs.Laws.{all_entries, get_other, get_same, removed_other, removed_same}
+use Rattle.call_laws.specs.WellFormed.{WellFormed, most_descriptors}
 use Rattle.call_laws.proofs.Laws.{not_none, some_same}
 use Rattle.freeing_laws.specs.Counts.{listed, times}
 use Rattle.freeing_laws.proofs.Left.{left_is_tidy_lem}
@@ -16,7 +18,7 @@ use Rattle.freeing_laws.proofs.Openings.{openings_change_lem}
 use Rattle.store.specs.Numbers.{Numbers}
 use Rattle.store.specs.declared.Opened.{Opened}
 use Rattle.shadow.specs.Stored.{AreCounted, Processes, numbered, state_of, with_process}
-use Rattle.shadow.specs.Openings.{slot_noted}
+use Rattle.notes.specs.Openings.{slot_noted}
 use Rattle.shadow.specs.Laid.{AreHeld, AreLow, IsOneLess, IsOneMore, IsSlotted, SameStore, WasHeld, table_in}
 use Rattle.shadow.proofs.shared.ProcessLemmas.{no_process, process_of_number}
 use Rattle.shadow.proofs.shared.PipePairLemmas.{same_pairs}
@@ -58,8 +60,26 @@ process_there ps q p is = elim (cases_lt q (suc (length ps.list))) [
   | inr high ↦ absurd (not_none p (sym is ∙ no_process ps q (inr (omega (arith, high)))))
 ]
 
+-- in a well-formed state the descriptors are below the limit
+pub well_low : (ps : Processes) (s : Numbers) → WellFormed (state_of ps s) → AreLow ps
+well_low ps s well = λ pid f d is.
+    let low : f < most_descriptors (state_of ps s) = well.low pid f d is in
+    omega arith
+
+-- how often a number stands in two lists, and in a list of one or none
+pub times_both : (d : ℕ) (xs ys : List ℕ) → times d (xs ++ ys) ≡ times d xs + times d ys
+times_both d xs ys = sum_by-append (λ v. cond {A = ℕ} (v == d) 1 0) xs ys
+
+pub listed_once : (d : ℕ) (g : Option ℕ) → times d (listed g) ≤ 1
+listed_once d (Some e) =
+    let sum : times d (e ∷ []) ≡ cond {A = ℕ} (e == d) 1 0 + times d [] = sum_by-cons (λ v. cond {A = ℕ} (v == d) 1 0) e [] in
+    let none : times d [] ≡ 0 = refl in
+    let one : cond {A = ℕ} (e == d) 1 0 ≤ 1 = at_most_one (e == d) in
+    omega (arith, sum, none, one)
+listed_once d None = let none : times d [] ≡ 0 = refl in omega (arith, none)
+
 -- there are few holders of a description
-pub few_holders : (ps : Processes) (s : Numbers) (d : ℕ) → AreLow ps → length ps.list < 2 ^ 64 → holders (state_of ps s) d + 1 < 2 ^ 128
+pub few_holders : (ps : Processes) (s : Numbers) (d : ℕ) → AreLow ps → length ps.list < 2 ^ 64 → holders (state_of ps s) d + DESCRIPTORS < 2 ^ 128
 few_holders ps s d low few =
     let most : holders (state_of ps s) d ≤ DESCRIPTORS * len (numbered ps) = openings_change_lem.most_holders (state_of ps s) d (λ pid it is. few_keys DESCRIPTORS it.table (λ f e gives. low pid f e (ap (λ o. get (table_in o) f) is ∙ gives))) in
     let all : len (numbered ps) ≤ suc (length ps.list) = few_keys (suc (length ps.list)) (numbered ps) (process_there ps) in
@@ -105,7 +125,7 @@ given_low f None o new is fits g d gives low = elim (cases_eq g f) [
 ]
 
 -- how often a description is held then
-held_then : (k : Kernel) (pid f : ℕ) (given : Option ℕ) (new : Process) → Some new ≡ slot_noted f given (get k.processes pid) → (e : ℕ)
+pub held_then : (k : Kernel) (pid f : ℕ) (given : Option ℕ) (new : Process) → Some new ≡ slot_noted f given (get k.processes pid) → (e : ℕ)
     → holders (set_process pid new k) e + times e (listed (get (table_in (get k.processes pid)) f)) ≡ holders k e + times e (listed given)
 held_then k pid f (Some d) new is e =
     ap (λ p. holders (set_process pid p k) e + times e (listed (get (table_in (get k.processes pid)) f))) (some_same new (with_slot f d (or_new (get k.processes pid))) is)
@@ -151,8 +171,9 @@ module _ (ps : Processes) (pid f : ℕ) (given former : Option ℕ) (new : Proce
           from_start : WasHeld (IsOneMore given d) s d mid.before → opened.holders ≡ holders (state_of qs u) d
           from_start start =
               let first : start.before.holders ≡ holders (state_of ps s) d = counted.holders d start.before start.held in
-              let bound : holders (state_of ps s) d + 1 < 2 ^ 128 = few_holders ps s d all few in
-              let second : mid.before.holders ≡ start.before.holders + times d (listed given) = start.count (omega (arith, first, bound)) in
+              let bound : holders (state_of ps s) d + DESCRIPTORS < 2 ^ 128 = few_holders ps s d all few in
+              let one : times d (listed given) ≤ 1 = listed_once d given in
+              let second : mid.before.holders ≡ start.before.holders + times d (listed given) = start.count (omega (arith, first, bound, one)) in
               let third : opened.holders ≡ mid.before.holders - times d (listed former) = mid.count in
               let law : holders (state_of qs u) d + times d (listed former) ≡ holders (state_of ps s) d + times d (listed given) = holders_now d in
               omega (arith, first, second, third, law)
@@ -170,7 +191,7 @@ module _ (ps : Processes) (pid f : ℕ) (given former : Option ℕ) (new : Proce
       descriptions = less.descriptions ∙ more.descriptions;
       reserves = λ n. less.reserves n ∙ more.reserves n;
       count = same_count ps pid (Some new) some low;
-      largest = refl;
+      bounds = refl;
       low = low_now;
       counted = counted_now;
     };

@@ -1,25 +1,30 @@
--- The slots of one process that change, one after the other.
-use Rattle.std.proofs.Common.{◌≡◌, ◌≢◌, ℕ, ◌+◌, ◌<◌, ◌≤◌, ◌==◌, Bool, true, false, cond, List, [], ◌∷◌, ◌++◌, Option, Some, None, nat_cmp, refl, sym, ap, subst, ◌∙◌, arith, inl, inr}
+-- The slots of one process that change, all at once.
+use Rattle.std.proofs.Common.{◌≡◌, ◌≢◌, ℕ, ◌+◌, ◌-◌, ◌<◌, ◌≤◌, ◌^◌, Bool, true, false, cond, List, [], ◌∷◌, ◌++◌, length, Option, Some, None, nat_cmp, refl, sym, ap, subst, ◌∙◌, arith, inl, inr}
 use Rattle.std.specs.Cmp.{nat_cmp_total}
 use Rattle.std.specs.List.{flat_map}
-use Rattle.std.proofs.lemmas.Bool.{cases_eq, cases_lt}
-use Rattle.std.proofs.lemmas.List.Sums.{sum_by-append}
+use Rattle.std.proofs.lemmas.Bool.{cases_eq}
 use Rattle.std.proofs.lemmas.List.Concat.{flat_map-cons}
 use Rattle.std.specs.Ordering.{eq_by_cmp}
-use Rattle.model.specs.FiniteMap.{empty, entries, find, get, get-empty, get-entries, insert, same_map, nat_cmp-IsAntisymmetric}
-use Rattle.model.specs.State.{Process}
+use Rattle.ids.specs.declared.limits.TheConstants.{DESCRIPTORS}
+use Rattle.model.specs.FiniteMap.{FinMap, entries, entries_sorted, find, get, get-entries, insert, len, len-entries, same_map, nat_cmp-IsAntisymmetric}
+use Rattle.model.specs.State.{Process, mapped}
+use Rattle.model.specs.Changes.{holders, set_process}
 use Rattle.model.proofs.Laws.{get_other, get_same}
 use Rattle.call_laws.proofs.Laws.{not_none, some_same}
-use Rattle.fdtable.specs.Patches.{Given, or_before}
-use Rattle.freeing_laws.specs.Counts.{times}
+use Rattle.fdtable.specs.Patches.{Given, IsFormer, or_before}
+use Rattle.freeing_laws.specs.Counts.{listed, times}
+use Rattle.freeing_laws.proofs.Openings.{openings_change_lem}
 use Rattle.store.specs.Numbers.{Numbers}
-use Rattle.shadow.specs.Stored.{Processes, numbered}
-use Rattle.shadow.specs.Openings.{slot_noted}
-use Rattle.shadow.specs.Patches.{reslotted, reslotted_by, slots_in}
-use Rattle.shadow.specs.Laid.{IsReslotted, IsSlotted, SlotsStay, given_by, table_in}
+use Rattle.store.specs.declared.Opened.{Opened}
+use Rattle.shadow.specs.Stored.{AreCounted, Processes, numbered, state_of}
+use Rattle.notes.specs.Patches.{reslotted, reslotted_by, slots_in, with_slots}
+use Rattle.shadow.specs.Laid.{AreHeld, AreLow, IsLessBy, IsMoreBy, IsReslotted, SlotsStay, WasHeld, given_by, giving, table_in}
+use Rattle.shadow.proofs.shared.PipePairLemmas.{same_pairs}
+use Rattle.shadow.proofs.shared.RisingKeys.{entries_keyed, keyed}
 use Rattle.shadow.proofs.committing.HolderCounts.{once_here}
-use Rattle.shadow.proofs.noting.SlotLemmas.{map_over, new_of, none_over, noted_over}
-use Rattle.shadow.proofs.committing.SlotSteps.{same_store_same}
+use Rattle.notes.proofs.Laws.{map_over, new_of}
+use Rattle.shadow.proofs.committing.SlotSteps.{few_holders, few_keys, listed_once, same_store_same, times_both}
+use Rattle.shadow.proofs.committing.SlotSums.{gave, held_after, listed_given}
 
 -- one after the other, what stays stays
 pub stays_still : (ps : Processes) (s : Numbers) → SlotsStay ps ps s s
@@ -28,7 +33,7 @@ stays_still ps s = record {
   descriptions = refl;
   reserves = λ n. refl;
   count = refl;
-  largest = refl;
+  bounds = refl;
   low = λ h. h;
   counted = λ low h. h;
 }
@@ -39,7 +44,7 @@ stays_on ps qs rs s t u first later = record {
   descriptions = later.descriptions ∙ first.descriptions;
   reserves = λ n. later.reserves n ∙ first.reserves n;
   count = later.count ∙ first.count;
-  largest = later.largest ∙ first.largest;
+  bounds = later.bounds ∙ first.bounds;
   low = λ h. later.low (first.low h);
   counted = λ low h. later.counted (first.low low) (first.counted low h);
 }
@@ -59,9 +64,6 @@ table_over m o f = ap (λ (p : Process). get p.table f) (new_of (entries m) o) �
 -- what a patch gives stands among what it gives in order
 abbrev given_all : List (ℕ × Option ℕ) → List ℕ
 given_all es = flat_map (λ g. given_by g.1) es
-
-pub times_both : (d : ℕ) (xs ys : List ℕ) → times d (xs ++ ys) ≡ times d xs + times d ys
-times_both d xs ys = sum_by-append (λ v. cond {A = ℕ} (v == d) 1 0) xs ys
 
 given_entry : (es : List (ℕ × Option ℕ)) (f d : ℕ) → find nat_cmp f es ≡ Some (Some d) → 0 < times d (given_all es)
 given_entry [] f d is = absurd cc
@@ -84,92 +86,145 @@ given_entry (e ∷ es) f d is = by_test (given_entry es f d) (eq_by_cmp nat_cmp 
 pub given_before : (former : Given) (f d : ℕ) → get former f ≡ Some (Some d) → 0 < times d (given_all (entries former))
 given_before former f d is = given_entry (entries former) f d (sym (get-entries former f) ∙ is)
 
-pub noted_somewhere : (given : Given) (f : ℕ) (g : Option ℕ) → get given f ≡ Some g → entries given ≢ []
-noted_somewhere given f g is none = not_none g (sym is ∙ get-entries given f ∙ ap (find nat_cmp f) none)
+-- what all slots that change gave before
+former_gave : (patch former : Given) (table : FinMap nat_cmp ℕ) → IsFormer patch table former → (d : ℕ) → giving former d ≡ times d (gave (entries patch) table)
+former_gave patch former table was d =
+    ap (λ es. times d (given_all es)) (entries_keyed (get table) patch former was) ∙ ap (times d) (by_entries (entries patch))
+  where
+    by_entries : (es : List (ℕ × Option ℕ)) → given_all (keyed (get table) es) ≡ gave es table
+    by_entries [] = refl
+    by_entries (e ∷ es) =
+        flat_map-cons (λ (g : ℕ × Option ℕ). given_by g.1) (e.0, get table e.0) (keyed (get table) es)
+        ∙ ap (λ ds. ds ++ given_all (keyed (get table) es)) (listed_given (get table e.0))
+        ∙ ap (λ ds. listed (get table e.0) ++ ds) (by_entries es)
+        ∙ sym (flat_map-cons (λ (g : ℕ × Option ℕ). listed (get table g.0)) e es)
 
--- the changes of the slots below n are made
-pub record Reslots (pid n : ℕ) (given former : Given) (ps qs : Processes) (old now : Numbers) : Type 0 where
-  pub done : Given
-  pub below : (f : ℕ) → f < n → get done f ≡ get given f
-  pub above : (f : ℕ) → n ≤ f → get done f ≡ None
-  pub stay : SlotsStay ps qs old now
-  pub here : get (numbered qs) pid ≡ reslotted (Some done) (get (numbered ps) pid)
-  pub others : (q : ℕ) → q ≢ pid → get (numbered qs) q ≡ get (numbered ps) q
-  pub before : (f : ℕ) → get done f ≢ None → get former f ≡ Some (get (table_in (get (numbered ps) pid)) f)
+-- as many slots give a description as there are notes, at most
+giving_few : (patch : Given) → ((f : ℕ) → get patch f ≢ None → f < DESCRIPTORS) → (d : ℕ) → giving patch d ≤ DESCRIPTORS
+giving_few patch low d =
+    let most : giving patch d ≤ length (entries patch) = by_entries (entries patch) in
+    let all : len patch ≡ length (entries patch) = len-entries patch in
+    let few : len patch ≤ DESCRIPTORS = few_keys DESCRIPTORS patch (λ f g is. low f (λ none. not_none g (sym is ∙ none))) in
+    omega (arith, most, all, few)
+  where
+    by_entries : (es : List (ℕ × Option ℕ)) → times d (given_all es) ≤ length es
+    by_entries [] = let none : times d [] ≡ 0 = refl in omega (arith, none)
+    by_entries (e ∷ es) =
+        let sum : times d (given_all (e ∷ es)) ≡ times d (given_by e.1) + times d (given_all es) = ap (times d) (flat_map-cons (λ (g : ℕ × Option ℕ). given_by g.1) e es) ∙ times_both d (given_by e.1) (given_all es) in
+        let one : times d (given_by e.1) ≤ 1 = subst (λ ds. times d ds ≤ 1) (sym (listed_given e.1)) (listed_once d e.1) in
+        let rest : times d (given_all es) ≤ length es = by_entries es in
+        omega (arith, sum, one, rest)
 
-pub reslots_nothing : (pid : ℕ) (given former : Given) (ps : Processes) (s : Numbers) → former ≡ empty → Reslots pid 0 given former ps ps s s
-reslots_nothing pid given former ps s is = record {
-  done = empty;
-  below = λ f low. absurd (omega (arith, low));
-  above = λ f high. get-empty nat_cmp f;
-  stay = stays_still ps s;
-  here = sym (none_over (get (numbered ps) pid));
-  others = λ q away. refl;
-  before = λ f some. absurd (some (get-empty nat_cmp f));
-}
+-- a process that is there, with its slots changed
+pub slots_of : (gs : List (ℕ × Option ℕ)) (p : Process) → reslotted_by gs (Some p) ≡ Some (with_slots gs p)
+slots_of [] p = refl
+slots_of (g ∷ gs) p = refl
 
-module _ (pid n : ℕ) (given former : Given) (ps qs : Processes) (old now : Numbers) (so : Reslots pid n given former ps qs old now) where
-  -- nothing is noted of the next slot
-  pub reslots_past : get given n ≡ None → Reslots pid (n + 1) given former ps qs old now
-  reslots_past none = record {
-    done = so.done;
-    below = λ f low. elim (cases_eq f n) [
-      | inl same ↦ ap (get so.done) same ∙ so.above n (omega arith) ∙ sym (ap (get given) same ∙ none)
-      | inr away ↦ so.below f (omega (arith, low, away))
-    ];
-    above = λ f high. so.above f (omega (arith, high));
-    stay = so.stay;
-    here = so.here;
-    others = so.others;
-    before = so.before;
-  }
+-- The slots of one process change, and the counts of holders with them.
+module _ (ps qs : Processes) (pid : ℕ) (patch former : Given) (s t u : Numbers)
+    (here : get (numbered qs) pid ≡ reslotted (Some patch) (get (numbered ps) pid)) (others : (q : ℕ) → q ≢ pid → get (numbered qs) q ≡ get (numbered ps) q)
+    (count : length qs.list ≡ length ps.list) (bounds : qs.bounds ≡ ps.bounds) (few : length ps.list < 2 ^ 64)
+    (living : entries patch ≢ [] → get (numbered ps) pid ≢ None) (was : IsFormer patch (table_in (get (numbered ps) pid)) former)
+    (low : (f : ℕ) → get patch f ≢ None → f < DESCRIPTORS) (more : AreHeld (IsMoreBy patch) s t) (less : AreHeld (IsLessBy former) t u) where
+  abbrev table : FinMap nat_cmp ℕ
+  table = table_in (get (numbered ps) pid)
 
-  -- the slot is as it was
-  unchanged : (f : ℕ) → get so.done f ≡ None → get (table_in (get (numbered qs) pid)) f ≡ get (table_in (get (numbered ps) pid)) f
-  unchanged f none =
-      ap (λ o. get (table_in o) f) so.here ∙ table_over so.done (get (numbered ps) pid) f
-      ∙ ap (λ o. or_before o (get (table_in (get (numbered ps) pid)) f)) none
+  holders_now : (d : ℕ) → holders (state_of qs u) d + giving former d ≡ holders (state_of ps s) d + giving patch d
+  holders_now d = by_process (get (numbered ps) pid) refl
+    where
+      gone : giving former d ≡ times d (gave (entries patch) table)
+      gone = former_gave patch former table was d
 
-  -- the next slot changes
-  module _ (g was : Option ℕ) (noted : get given n ≡ Some g) (former' : Given) (rs : Processes) (later : Numbers)
-      (slotted : IsSlotted pid n g qs rs now later) (kept : was ≡ get (table_in (get (numbered qs) pid)) n) (is : former' ≡ insert former n was) where
-    before_at : get former' n ≡ Some (get (table_in (get (numbered ps) pid)) n)
-    before_at = ap (λ (m : Given). get m n) is ∙ get_same former n was ∙ ap (λ o. Some o) (kept ∙ unchanged n (so.above n (omega arith)))
+      by_process : (o : Option Process) → get (numbered ps) pid ≡ o → holders (state_of qs u) d + giving former d ≡ holders (state_of ps s) d + giving patch d
+      by_process (Some p) is =
+          let law : holders (set_process pid (with_slots (entries patch) p) (state_of ps s)) d + times d (gave (entries patch) p.table) ≡ holders (state_of ps s) d + giving patch d =
+          held_after (entries patch) (entries_sorted patch) (state_of ps s) pid p is d in
+          let same : holders (state_of qs u) d ≡ holders (set_process pid (with_slots (entries patch) p) (state_of ps s)) d =
+          openings_change_lem.by_processes (set_process pid (with_slots (entries patch) p) (state_of ps s)) (state_of qs u) changed d in
+          let at : times d (gave (entries patch) table) ≡ times d (gave (entries patch) p.table) = ap (λ o. times d (gave (entries patch) (table_in o))) is in
+          let former_ones : giving former d ≡ times d (gave (entries patch) table) = gone in
+          omega (arith, law, same, at, former_ones)
+        where
+          changed : numbered qs ≡ insert (numbered ps) pid (with_slots (entries patch) p)
+          changed = same_map nat_cmp_total nat_cmp-IsAntisymmetric _ _ (λ q. elim (cases_eq q pid) [
+            | inl same ↦ ap (get (numbered qs)) same ∙ here ∙ ap (reslotted (Some patch)) is ∙ slots_of (entries patch) p
+                ∙ sym (ap (get (insert (numbered ps) pid (with_slots (entries patch) p))) same ∙ get_same (numbered ps) pid (with_slots (entries patch) p))
+            | inr away ↦ others q away ∙ sym (get_other (numbered ps) pid q (with_slots (entries patch) p) away)
+          ])
+      by_process None is =
+          let nothing : giving patch d ≡ 0 = ap (λ es. times d (given_all es)) none in
+          let same : holders (state_of qs u) d ≡ holders (state_of ps s) d = openings_change_lem.by_processes (state_of ps s) (state_of qs u) unchanged d in
+          let former_ones : giving former d ≡ 0 = gone ∙ ap (λ es. times d (gave es table)) none in
+          omega (arith, nothing, same, former_ones)
+        where
+          by_entries : (es : List (ℕ × Option ℕ)) → entries patch ≡ es → es ≡ []
+          by_entries [] e = refl
+          by_entries (g ∷ gs) e = absurd (living (λ none. absurd (not_empty (sym e ∙ none))) is)
+            where
+              not_empty : g ∷ gs ≡ [] → ⊥
+              not_empty same = cc
 
-    pub reslots_on : Reslots pid (n + 1) given former' ps rs old later
-    reslots_on = record {
-      done = insert so.done n g;
-      below = λ f low. elim (cases_eq f n) [
-        | inl same ↦ ap (get (insert so.done n g)) same ∙ get_same so.done n g ∙ sym (ap (get given) same ∙ noted)
-        | inr away ↦ get_other so.done n f g away ∙ so.below f (omega (arith, low, away))
-      ];
-      above = λ f high. get_other so.done n f g (λ same. omega (arith, same, high)) ∙ so.above f (omega (arith, high));
-      stay = stays_on ps qs rs old now later so.stay slotted.stay;
-      here = slotted.here ∙ ap (slot_noted n g) so.here ∙ sym (noted_over so.done n g (get (numbered ps) pid));
-      others = λ q away. slotted.others q away ∙ so.others q away;
-      before = λ f some. elim (cases_eq f n) [
-        | inl same ↦ subst (λ f. get former' f ≡ Some (get (table_in (get (numbered ps) pid)) f)) (sym same) before_at
-        | inr away ↦
-            ap (λ (m : Given). get m f) is ∙ get_other former n f was away
-            ∙ so.before f (λ none. some (get_other so.done n f g away ∙ none))
-      ];
-    }
+          none : entries patch ≡ []
+          none = by_entries (entries patch) refl
 
-  -- all of them have changed
-  pub reslots_all : ((f : ℕ) → get given f ≢ None → f < n) → IsReslotted pid given former ps qs old now
-  reslots_all low = record {
-    stay = so.stay;
-    here = so.here ∙ ap (λ m. reslotted (Some m) (get (numbered ps) pid)) whole;
-    others = so.others;
-    let_go = λ f d was gone. given_before former f d (so.before f (λ none. gone (unchanged f none ∙ was)) ∙ ap (λ o. Some o) was);
+          unchanged : numbered qs ≡ numbered ps
+          unchanged = same_map nat_cmp_total nat_cmp-IsAntisymmetric _ _ (λ q. elim (cases_eq q pid) [
+            | inl same ↦ ap (get (numbered qs)) same ∙ here ∙ ap (λ es. reslotted_by es (get (numbered ps) pid)) none ∙ ap (get (numbered ps)) (sym same)
+            | inr away ↦ others q away
+          ])
+
+  counted_now : AreLow ps → AreCounted ps s → AreCounted qs u
+  counted_now all counted = record {
+    openings = λ n file is. counted.openings n file (more.files n file (less.files n file is)) ∙ sym (openings_change_lem.by_descriptions (state_of ps s) (state_of qs u) (less.descriptions ∙ more.descriptions) n);
+    holders = λ d opened is. of_holders d opened (less.opened d opened is);
+    pipes = λ p pipe is. same_pairs (state_of ps s) (state_of qs u) (less.descriptions ∙ more.descriptions) p pipe.reader pipe.writer (counted.pipes p pipe (more.pipes p pipe (less.pipes p pipe is)));
   }
     where
-      whole : so.done ≡ given
-      whole = same_map nat_cmp_total nat_cmp-IsAntisymmetric so.done given (λ f. elim (cases_lt f n) [
-        | inl below ↦ so.below f below
-        | inr high ↦ so.above f high ∙ sym (nothing f (get given f) refl high)
-      ])
+      of_holders : (d : ℕ) (opened : Opened) → WasHeld (IsLessBy former d) t d opened → opened.holders ≡ holders (state_of qs u) d
+      of_holders d opened mid = from_start (more.opened d mid.before mid.held)
         where
-          nothing : (f : ℕ) (o : Option (Option ℕ)) → get given f ≡ o → n ≤ f → get given f ≡ None
-          nothing f None is high = is
-          nothing f (Some g) is high = absurd (let below : f < n = low f (λ none. not_none g (sym is ∙ none)) in omega arith)
+          from_start : WasHeld (IsMoreBy patch d) s d mid.before → opened.holders ≡ holders (state_of qs u) d
+          from_start start =
+              let first : start.before.holders ≡ holders (state_of ps s) d = counted.holders d start.before start.held in
+              let bound : holders (state_of ps s) d + DESCRIPTORS < 2 ^ 128 = few_holders ps s d all few in
+              let given : giving patch d ≤ DESCRIPTORS = giving_few patch low d in
+              let second : mid.before.holders ≡ start.before.holders + giving patch d = start.count (omega (arith, first, bound, given)) in
+              let third : opened.holders ≡ mid.before.holders - giving former d = mid.count in
+              let law : holders (state_of qs u) d + giving former d ≡ holders (state_of ps s) d + giving patch d = holders_now d in
+              omega (arith, first, second, third, law)
+
+  slot_now : (f : ℕ) → get (table_in (get (numbered qs) pid)) f ≡ or_before (get patch f) (get table f)
+  slot_now f = ap (λ o. get (table_in o) f) here ∙ table_over patch (get (numbered ps) pid) f
+
+  low_now : AreLow ps → AreLow qs
+  low_now all q f d is = elim (cases_eq q pid) [
+    | inl same ↦ by_note (get patch f) refl (sym (ap (λ q. get (table_in (get (numbered qs) q)) f) same ∙ slot_now f) ∙ is)
+    | inr away ↦ all q f d (ap (λ o. get (table_in o) f) (sym (others q away)) ∙ is)
+  ]
+    where
+      by_note : (g : Option (Option ℕ)) → get patch f ≡ g → or_before (get patch f) (get table f) ≡ Some d → f < DESCRIPTORS
+      by_note (Some g) noted gives = low f (λ none. not_none g (sym noted ∙ none))
+      by_note None noted gives = all pid f d (sym (ap (λ g. or_before g (get table f)) noted) ∙ gives)
+
+  let_go_now : (f d : ℕ) → get table f ≡ Some d → get (table_in (get (numbered qs) pid)) f ≢ Some d → 0 < times d (given_all (entries former))
+  let_go_now f d gave gone = by_note (get patch f) refl
+    where
+      by_note : (g : Option (Option ℕ)) → get patch f ≡ g → 0 < times d (given_all (entries former))
+      by_note (Some g) noted = given_before former f d (was f ∙ ap (mapped (λ _. get table f)) noted ∙ ap (λ o. Some o) gave)
+      by_note None noted = absurd (gone (slot_now f ∙ ap (λ g. or_before g (get table f)) noted ∙ gave))
+
+  pub reslotted_whole : IsReslotted pid patch former ps qs s u
+  reslotted_whole = record {
+    stay = record {
+      same = same_store_same s t u more.same less.same;
+      descriptions = less.descriptions ∙ more.descriptions;
+      reserves = λ n. less.reserves n ∙ more.reserves n;
+      count = count;
+      bounds = bounds;
+      low = low_now;
+      counted = counted_now;
+    };
+    here = here;
+    others = others;
+    let_go = let_go_now;
+  }

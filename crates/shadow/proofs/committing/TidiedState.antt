@@ -19,15 +19,15 @@ use Rattle.freeing_laws.specs.Sweep.{AreParented, AreSet, all_closed, free_inode
 use Rattle.freeing_laws.proofs.Laws.{sweep_is_tidy_lem}
 use Rattle.freeing_laws.proofs.Left.{left_is_tidy_lem}
 use Rattle.store.specs.Numbers.{Numbers}
-use Rattle.shadow.specs.declared.opening.Opening.{Opening}
-use Rattle.shadow.specs.declared.opening.Opening.TheVariants.{Kept, New, Moved}
+use Rattle.notes.specs.declared.opening.Opening.{Opening}
+use Rattle.notes.specs.declared.opening.Opening.TheVariants.{Kept, New, Moved}
 use Rattle.shadow.specs.Claims.{Claim, claimed}
 use Rattle.shadow.specs.Laid.{AreReopened, AreReslotted, Frees, given_in, kept_in, table_in}
-use Rattle.shadow.specs.Patches.{Patches, is_new, kept_at, opening_at, or_kept, reopened}
+use Rattle.notes.specs.Patches.{Patches, is_new, kept_at, opening_at, or_kept, reopened}
 use Rattle.shadow.specs.Stored.{Processes, Sound, numbered, state_of}
 use Rattle.shadow.proofs.committing.CommitStates.{CanCommit, HasAll, HasInodes}
 use Rattle.shadow.proofs.shared.SoundnessLemmas.{tidied_of}
-use Rattle.shadow.proofs.shared.SortedKeys.{later_kept}
+use Rattle.notes.proofs.Laws.{later_kept}
 use Rattle.shadow.proofs.freeing.RemovalSteps.{closed_append}
 
 -- what stands in one of two lists stands in both together

@@ -29,11 +29,12 @@ use Rattle.shadow.specs.Claims.{coming_directory, coming_other, inodes_claim, is
 use Rattle.shadow.specs.Claims.{openings_claim, or_zero, reserved, room_of}
 use Rattle.shadow.specs.Committed.{Reserve}
 use Rattle.shadow.specs.Laid.{AreReopened, AreReslotted, Holds, kept_in, reserves_of, settled}
-use Rattle.shadow.specs.Patches.{Patches, is_new, net_at, opening_at, reopened}
+use Rattle.notes.specs.Patches.{Patches, is_new, net_at, opening_at, reopened}
 use Rattle.shadow.specs.Stored.{AreCounted, IsEndHere, Processes, committed_of, numbered, reserve_in, state_of}
-use Rattle.shadow.specs.declared.opening.Opening.{Opening}
-use Rattle.shadow.specs.declared.opening.Opening.TheVariants.{New}
+use Rattle.notes.specs.declared.opening.Opening.{Opening}
+use Rattle.notes.specs.declared.opening.Opening.TheVariants.{New}
 use Rattle.shadow.proofs.committing.CommitStates.{CanCommit, HasAll, HasInodes}
+use Rattle.shadow.proofs.committing.SlotSteps.{well_low}
 use Rattle.shadow.proofs.claims.ClaimCounts.{at_place, met_is}
 use Rattle.shadow.proofs.shared.PipePairLemmas.{end_of}
 
@@ -97,15 +98,15 @@ unheld_new {ps} {s} {ds} {p} can d new =
 -- states with the same parts
 same_kernel : (k l : Kernel) → k.root ≡ l.root → k.inodes ≡ l.inodes → k.rights ≡ l.rights
     → k.descriptions ≡ l.descriptions → k.processes ≡ l.processes → k.made ≡ l.made
-    → k.largest ≡ l.largest → k ≡ l
-same_kernel k l root inodes rights descriptions processes made largest = λ i. record {
+    → k.bounds ≡ l.bounds → k ≡ l
+same_kernel k l root inodes rights descriptions processes made bounds = λ i. record {
   root = root i;
   inodes = inodes i;
   rights = rights i;
   descriptions = descriptions i;
   processes = processes i;
   made = made i;
-  largest = largest i;
+  bounds = bounds i;
 }
 
 -- a description is of what can be opened, so none opens anything else
@@ -214,7 +215,7 @@ module _ {ps qs : Processes} {s mid after last : Numbers} {ds : List Effect} {p 
       (same_map nat_cmp_total nat_cmp-IsAntisymmetric _ _ description)
       (same_map nat_cmp_total nat_cmp-IsAntisymmetric _ _ process)
       (slotted.stay.count ∙ sym (can.agrees.count (state_of ps s)))
-      (slotted.stay.largest ∙ sym (can.agrees.largest (state_of ps s)))
+      (slotted.stay.bounds ∙ sym (can.agrees.bounds (state_of ps s)))
 
   well : WellFormed (state_of qs last)
   well =
@@ -243,7 +244,7 @@ module _ {ps qs : Processes} {s mid after last : Numbers} {ds : List Effect} {p 
 
   counted : AreCounted qs last
   counted =
-      slotted.stay.counted can.sound.well.low (opened.counted ps made.counted unheld ends_here)
+      slotted.stay.counted (well_low ps s can.sound.well) (opened.counted ps made.counted unheld ends_here)
 
   holds : Holds qs last
   holds = record {

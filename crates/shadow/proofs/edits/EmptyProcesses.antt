@@ -1,4 +1,4 @@
--- A process without descriptors comes or goes: nothing is held more, or less.
+-- A process comes or goes: what it had open is held more, or less; nothing, where it had nothing open.
 use Rattle.std.proofs.Common.{◌≡◌, ◌+◌, ◌==◌, Bool, ℕ, [], Some, nat_cmp, refl, ap, ap₂, ◌∙◌, arith}
 use Rattle.std.specs.Cmp.{nat_cmp_total}
 use Rattle.std.specs.List.{count_by, sum_by}
@@ -7,6 +7,7 @@ use Rattle.model.specs.FiniteMap.{values}
 use Rattle.model.specs.State.{Description, Kernel, Process, ends, is_end}
 use Rattle.model.specs.Changes.{holders}
 use Rattle.model.proofs.Laws.{sum-remove, weight}
+use Rattle.freeing_laws.specs.Counts.{times}
 use Rattle.freeing_laws.proofs.Openings.{openings_change_lem}
 use Rattle.store.specs.Numbers.{Numbers}
 use Rattle.shadow.specs.Stored.{AreCounted, Processes, state_of}
@@ -22,6 +23,21 @@ weightless w m pid it is zero =
     = sum-remove nat_cmp_total nat_cmp-IsAntisymmetric w m pid in
     let none : weight w (get m pid) ≡ 0 = ap (weight w) is ∙ zero in
     omega arith
+
+-- a process that goes holds nothing more
+pub holders_without : (k l : Kernel) (pid : ℕ) (it : Process) → get k.processes pid ≡ Some it
+    → l.processes ≡ remove k.processes pid → (d : ℕ)
+    → holders l d + times d (values it.table) ≡ holders k d
+unfolding holders
+holders_without k l pid it is without d =
+    let w : Process → ℕ = λ process. count_by (λ e. e == d) (values process.table) in
+    let sum : weight w (get k.processes pid) + sum_by w (values (remove k.processes pid))
+    ≡ sum_by w (values k.processes)
+    = sum-remove nat_cmp_total nat_cmp-IsAntisymmetric w k.processes pid in
+    let here : weight w (get k.processes pid) ≡ w it = ap (weight w) is in
+    let left : sum_by w (values l.processes) ≡ sum_by w (values (remove k.processes pid))
+    = ap (λ m. sum_by w (values m)) without in
+    omega (arith, sum, here, left)
 
 -- an empty table gives nothing
 no_values : (it : Process) → it.table ≡ empty → values it.table ≡ []

@@ -1,10 +1,10 @@
 -- A file whose bytes are changed where it stands, or outside the store and swapped in again.
-use Rattle.std.proofs.Common.{◌≡◌, ℕ, List, [], length, Option, Some, None, Result, Ok, Err, OnOk, OnErr, refl, sym, ap, subst, ◌∙◌}
+use Rattle.std.proofs.Common.{◌≡◌, ℕ, List, [], length, replicate, Option, Some, None, Result, Ok, Err, OnOk, OnErr, refl, sym, ap, subst, ◌∙◌}
 use Rattle.std.specs.Prelude.{IsSome}
 use Rattle.std.specs.Option.{option_and_then, option_map}
 use Rattle.model.specs.FiniteMap.{get, insert}
 use Rattle.model.specs.State.{A_file, Inode, Kernel, Directory, File, Fixed, Pipe, kind, kind_of, mapped, file_of, file_of_inode}
-use Rattle.model.specs.Changes.{Put_bytes, Cut, applied, sized, written, set_inode, tidy}
+use Rattle.model.specs.Changes.{Put_bytes, Cut, Wipe, applied, sized, written, set_inode, tidy}
 use Rattle.model.proofs.Laws.{get_same}
 use Rattle.call_laws.specs.Fits.{Fits}
 use Rattle.freeing_laws.proofs.Openings.{openings_change_lem}
@@ -144,6 +144,10 @@ module _ (ps : Processes) (s : Numbers) (n : ℕ) (b : FileContent) (sound : Sou
   unfolding applied
   written_state place bytes before is = swapped_state ∙ ap (λ bs. set_inode n (File bs) k) is
 
+  pub wiped_state : (place count : ℕ) → b.bytes ≡ written (file_of k n) place (replicate count 0) → state_of ps (swapped b s n) ≡ applied [] (Wipe n place count) k
+  unfolding applied
+  wiped_state place count is = swapped_state ∙ ap (λ bs. set_inode n (File bs) k) is
+
   pub cut_state : (before after : ℕ) → b.bytes ≡ sized after (file_of k n) → state_of ps (swapped b s n) ≡ applied [] (Cut n before after) k
   unfolding applied
   cut_state before after is = swapped_state ∙ ap (λ bs. set_inode n (File bs) k) is
@@ -153,6 +157,10 @@ module _ (ps : Processes) (s : Numbers) (n : ℕ) (b : FileContent) (sound : Sou
       let fits : Fits [] k (Put_bytes n place bytes (length (file_of k n))) = (file, refl) in
       sound_after ps ps s (swapped b s n) [] (Put_bytes n place bytes (length (file_of k n))) sound fits
       (written_state place bytes (length (file_of k n)) is ∙ sym (tidy_after ps s [] (Put_bytes n place bytes (length (file_of k n))) sound fits refl)) refl (file_staged (with_bytes b) s n sound.staged) swapped_counted
+
+  -- a write of zeros is sound, wherever they end, and so is the state with them
+  pub wiped_sound : (place count : ℕ) → b.bytes ≡ written (file_of k n) place (replicate count 0) → Sound ps (swapped b s n)
+  wiped_sound place count is = written_sound place (replicate count 0) is
 
   pub cut_sound : (after : ℕ) → b.bytes ≡ sized after (file_of k n) → Sound ps (swapped b s n)
   cut_sound after is =

@@ -1,11 +1,10 @@
 -- A process more in the committed state, which then has its parent's descriptors.
-use Rattle.std.proofs.Common.{◌≡◌, ◌≢◌, ℕ, suc, ◌+◌, ◌-◌, ◌<◌, ◌≤◌, List, [], ◌∷◌, length, get_or}
+use Rattle.std.proofs.Common.{◌≡◌, ◌≢◌, ℕ, suc, ◌+◌, ◌-◌, ◌<◌, List, [], ◌∷◌, length, get_or}
 use Rattle.std.proofs.Common.{Option, Some, None, nat_cmp, refl, sym, ap, ◌∙◌, arith, inl, inr}
 use Rattle.std.specs.Cmp.{nat_cmp_total}
 use Rattle.std.proofs.lemmas.Bool.{cases_eq, cases_lt}
 use Rattle.std.proofs.lemmas.List.{get_or_append_left, length-append}
 use Rattle.std.proofs.Math.Seq.{get_or-append_seam}
-use Rattle.ids.specs.declared.limits.TheConstants.{DESCRIPTORS}
 use Rattle.model.specs.FiniteMap.{empty, entries, get, get-empty, insert, nat_cmp-IsAntisymmetric}
 use Rattle.model.specs.FiniteMap.{remove, same_map}
 use Rattle.model.specs.State.{Kernel, Process, mapped}
@@ -17,14 +16,14 @@ use Rattle.fdtable.specs.Patches.{Given, or_before}
 use Rattle.store.specs.Numbers.{Numbers}
 use Rattle.store.specs.Shown.{descriptions, inodes}
 use Rattle.shadow.specs.Laid.{AreLow, IsReslotted, table_in}
-use Rattle.shadow.specs.Patches.{reslotted}
+use Rattle.notes.specs.Patches.{reslotted}
 use Rattle.shadow.specs.Stored.{AreCounted, Processes, Sound, numbered, state_of, stored}
 use Rattle.shadow.specs.Stored.{with_one_more}
 use Rattle.shadow.proofs.shared.SoundnessLemmas.{sound_after, tidy_after}
 use Rattle.shadow.proofs.edits.EmptyProcesses.{counted_same, same_holders}
 use Rattle.shadow.proofs.shared.ProcessLemmas.{no_process, process_of_number}
 use Rattle.shadow.proofs.edits.SlotChanges.{sound_low}
-use Rattle.shadow.proofs.noting.SlotLemmas.{new_of}
+use Rattle.notes.proofs.Laws.{new_of}
 use Rattle.shadow.proofs.committing.TableSteps.{still_there, table_over}
 
 -- one that is there is the one that it is
@@ -100,9 +99,8 @@ module _ (ps qs : Processes) (s t : Numbers) (parent : ℕ) (pipes : List ℕ) (
     (new : Process) (none : new.table ≡ empty)
     (alike : new.priority ≡ (process_of (state_of ps s) parent).priority)
     (patch former : Given)
-    (noted : (f : ℕ) → f < DESCRIPTORS
+    (noted : (f : ℕ)
     → get patch f ≡ mapped Some (get (process_of (state_of ps s) parent).table f))
-    (low : (f : ℕ) → get patch f ≢ None → f < DESCRIPTORS)
     (laid : IsReslotted (suc (length ps.list)) patch former (grown ps new) qs s t) where
   abbrev k : Kernel
   k = state_of ps s
@@ -113,34 +111,15 @@ module _ (ps qs : Processes) (s t : Numbers) (parent : ℕ) (pipes : List ℕ) (
   abbrev now : Option Process
   now = get (numbered qs) (suc (length ps.list))
 
-  low_table : (f d : ℕ) → get it.table f ≡ Some d → f < DESCRIPTORS
-  low_table f d gives = sound_low ps s sound parent f d gives
-
   slot : (f : ℕ) → get (table_in now) f ≡ or_before (get patch f) None
   slot f =
       ap (λ o. get (table_in o) f) (laid.here ∙ ap (reslotted (Some patch)) (grown_here ps new))
       ∙ table_over patch (Some new) f
       ∙ ap (or_before (get patch f)) (ap (λ m. get m f) none ∙ get-empty nat_cmp f)
 
-  -- a descriptor above the limit gives nothing
-  high_slot : (f : ℕ) → DESCRIPTORS ≤ f → or_before (get patch f) None ≡ get it.table f
-  high_slot f high = by_patch (get patch f) refl ∙ sym (by_table (get it.table f) refl)
-    where
-      by_patch : (o : Option (Option ℕ)) → get patch f ≡ o → or_before o None ≡ None
-      by_patch None is = refl
-      by_patch (Some g) is =
-          absurd (let below : f < DESCRIPTORS = low f (λ e. not_none g (sym is ∙ e)) in omega arith)
-
-      by_table : (o : Option ℕ) → get it.table f ≡ o → o ≡ None
-      by_table None is = refl
-      by_table (Some d) is = absurd (let below : f < DESCRIPTORS = low_table f d is in omega arith)
-
   table_now : table_in now ≡ it.table
   table_now = same_map nat_cmp_total nat_cmp-IsAntisymmetric _ _ (λ f.
-      slot f ∙ elim (cases_lt f DESCRIPTORS) [
-        | inl below ↦ ap (λ o. or_before o None) (noted f below) ∙ given_or (get it.table f)
-        | inr high ↦ high_slot f high
-      ])
+      slot f ∙ ap (λ o. or_before o None) (noted f) ∙ given_or (get it.table f))
 
   child_now : now ≡ Some it
   child_now =
@@ -183,7 +162,7 @@ module _ (ps qs : Processes) (s t : Numbers) (parent : ℕ) (pipes : List ℕ) (
         descriptions = descriptions s;
         processes = processes_now i;
         made = count_now i;
-        largest = laid.stay.largest i;
+        bounds = laid.stay.bounds i;
       })
 
   pub forked_sound : Sound qs t

@@ -23,7 +23,7 @@ use Rattle.store.specs.declared.OpenFile.{OpenFile}
 use Rattle.store.specs.declared.OpenPipe.{OpenPipe}
 use Rattle.store.specs.declared.Opened.{Opened}
 use Rattle.store.proofs.Laws.{remove-absent, with_place}
-use Rattle.shadow.specs.declared.opening.Opening.TheVariants.{New}
+use Rattle.notes.specs.declared.opening.Opening.TheVariants.{New}
 use Rattle.shadow.specs.Claims.{Claim, New_directory, Number, Room, claimed_by_one, number_of, reserved}
 use Rattle.shadow.specs.Committed.{Committed}
 use Rattle.shadow.specs.Laid.{Frees, IsReopened, IsSlotted, kept_in, reserves_of, settled}
@@ -241,7 +241,7 @@ module _ (ps : Processes) (s : Numbers) (v : Committed) (is : committed_of ps s 
           new_is : (a b : Description) → New a ≡ New b → a ≡ b
           new_is a b same = ap (or_new' a) same
             where
-              or_new' : Description → Rattle.shadow.specs.declared.opening.Opening.Opening → Description
+              or_new' : Description → Rattle.notes.specs.declared.opening.Opening.Opening → Description
               or_new' x (New y) = y
               or_new' x _ = x
 
@@ -251,7 +251,7 @@ module _ (ps : Processes) (s : Numbers) (v : Committed) (is : committed_of ps s 
           new_is : (a b : Description) → New a ≡ New b → a ≡ b
           new_is a b same = ap (or_new' a) same
             where
-              or_new' : Description → Rattle.shadow.specs.declared.opening.Opening.Opening → Description
+              or_new' : Description → Rattle.notes.specs.declared.opening.Opening.Opening → Description
               or_new' x (New y) = y
               or_new' x _ = x
 

@@ -18,8 +18,8 @@ use Rattle.store.specs.Shown.{descriptions, inodes}
 use Rattle.store.specs.declared.OpenPipe.{OpenPipe}
 use Rattle.store.specs.declared.Object.TheVariants.{Pipe as Kept_pipe, Nothing}
 use Rattle.store.proofs.Laws.{get-inodes}
-use Rattle.shadow.specs.declared.opening.Opening.{Opening}
-use Rattle.shadow.specs.declared.opening.Opening.TheVariants.{New}
+use Rattle.notes.specs.declared.opening.Opening.{Opening}
+use Rattle.notes.specs.declared.opening.Opening.TheVariants.{New}
 use Rattle.shadow.specs.Claims.{Claim, New_directory, Number, Room, claimed_by_one, number_of}
 use Rattle.shadow.specs.Claims.{reserved}
 use Rattle.shadow.specs.Committed.{Committed}

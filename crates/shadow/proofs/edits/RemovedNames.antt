@@ -12,11 +12,11 @@ use Rattle.store.specs.declared.Object.{Object}
 use Rattle.store.specs.declared.Object.TheVariants.{Directory as Kept_directory, File as Kept_file, Pipe as Kept_pipe, Fixed as Kept_fixed}
 use Rattle.store.specs.declared.Object.TheVariants.{Description as Kept_description, Nothing}
 use Rattle.store.proofs.Laws.{left-altered}
-use Rattle.shadow.specs.declared.change.Made.{Made as What}
-use Rattle.shadow.specs.declared.change.Made.TheVariants.{Directory as A_directory, File as A_file, Pipe as A_pipe, Fixed as A_fixed}
+use Rattle.notes.specs.declared.change.Made.{Made as What}
+use Rattle.notes.specs.declared.change.Made.TheVariants.{Directory as A_directory, File as A_file, Pipe as A_pipe, Fixed as A_fixed}
 use Rattle.shadow.specs.Claims.{Claim, New_directory, Number, Room}
 use Rattle.shadow.specs.Laid.{kept_in}
-use Rattle.shadow.specs.Steps.{unnaming}
+use Rattle.notes.specs.Steps.{unnaming}
 use Rattle.shadow.specs.Stored.{Processes, Sound, state_of}
 use Rattle.shadow.proofs.shared.SoundnessLemmas.{tidied_of}
 use Rattle.shadow.proofs.freeing.SoundAfterFreeing.{IsMade}

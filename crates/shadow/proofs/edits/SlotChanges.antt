@@ -20,13 +20,13 @@ use Rattle.shadow.specs.Claims.{number_of, or_zero, room_of}
 use Rattle.shadow.specs.Committed.{Committed, Reserve}
 use Rattle.shadow.specs.Laid.{AreHeld, AreLow, Frees, Holds, IsOneLess, IsOneMore, IsSlotted, kept_in}
 use Rattle.shadow.specs.Laid.{reserves_of, table_in}
-use Rattle.shadow.specs.Openings.{slot_noted}
-use Rattle.shadow.specs.Steps.{slotting}
+use Rattle.notes.specs.Openings.{slot_noted}
+use Rattle.notes.specs.Steps.{slotting}
 use Rattle.shadow.specs.Stored.{Processes, Sound, committed_of, numbered, state_of, stored}
 use Rattle.shadow.specs.Stored.{with_process}
 use Rattle.shadow.proofs.shared.SoundnessLemmas.{state_is, tidied_of}
 use Rattle.shadow.proofs.freeing.SoundAfterFreeing.{IsMade, freed_sound, freed_state, made_holds}
-use Rattle.shadow.proofs.committing.SlotSteps.{slotted}
+use Rattle.shadow.proofs.committing.SlotSteps.{slotted, well_low}
 
 -- a process whose slot gives this from now on
 abbrev pub noted : ℕ → Option ℕ → Process → Process
@@ -54,7 +54,7 @@ slotted_by ps pid f given former now s t u some low fits few was gives more less
 
 -- in a well-formed state the descriptors are below the limit
 pub sound_low : (ps : Processes) (s : Numbers) → Sound ps s → AreLow ps
-sound_low ps s sound = sound.well.low
+sound_low ps s sound = well_low ps s sound.well
 
 -- what is kept for a number, as claims can be met
 abbrev pub met_by : Claim → Option Reserve → ℕ
@@ -95,7 +95,7 @@ module _ (ps qs : Processes) (s t : Numbers) (pid f : ℕ) (given : Option ℕ)
         descriptions = descriptions s;
         processes = processes_are i;
         made = laid.stay.count i;
-        largest = laid.stay.largest i;
+        bounds = laid.stay.bounds i;
       })
 
   pub slotted_keeps : (c : Claim) → kept_in t c ≡ kept_in s c

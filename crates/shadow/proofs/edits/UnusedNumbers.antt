@@ -7,14 +7,14 @@ use Rattle.model.specs.State.{Directory, File, Fixed, Fixed_content, Kernel, Nam
 use Rattle.model.specs.FiniteMap.{empty}
 use Rattle.model.specs.Changes.{Append, Cut, Edit, Make_directory, Make_file, Make_fixed, Make_pipe, Open_inode}
 use Rattle.model.specs.Changes.{Move, Name_file, Put_bytes, Replaced, There, Which, applied, number}
-use Rattle.model.specs.Changes.{Set_rights, Take, open_at, to_read, to_write}
+use Rattle.model.specs.Changes.{Set_rights, Swap, Take, Wipe, open_at, to_read, to_write}
 use Rattle.model.specs.Changes.{set_inode, set_name, tidy}
 use Rattle.call_laws.specs.Fits.{Fits}
 use Rattle.freeing_laws.specs.Sweep.{IsTidied, loses}
 use Rattle.freeing_laws.proofs.Laws.{sweep_is_tidy_lem}
-use Rattle.shadow.specs.declared.change.Made.{Made as What}
-use Rattle.shadow.specs.declared.change.Made.TheVariants.{Directory as A_directory, File as A_file, Pipe as A_pipe, Fixed as A_fixed}
-use Rattle.shadow.specs.Steps.{new_in, slotting, unnaming}
+use Rattle.notes.specs.declared.change.Made.{Made as What}
+use Rattle.notes.specs.declared.change.Made.TheVariants.{Directory as A_directory, File as A_file, Pipe as A_pipe, Fixed as A_fixed}
+use Rattle.notes.specs.Steps.{new_in, slotting, unnaming}
 
 -- a new object by its own number alone
 module _ (chosen : List ℕ) (d : ℕ) (x : Name) (n i : ℕ) (first : i ≡ 0) (new : n ≡ new_in chosen 0)
@@ -86,6 +86,16 @@ module _ (chosen : List ℕ) (k : Kernel) where
       → applied [] (Cut n before after) k ≡ applied chosen (Cut n before after) k
   unfolding applied
   same_cut n before after = refl
+
+  pub same_wipe : (n place count : ℕ)
+      → applied [] (Wipe n place count) k ≡ applied chosen (Wipe n place count) k
+  unfolding applied
+  same_wipe n place count = refl
+
+  pub same_swap : (d : ℕ) (x : Name) (n e : ℕ) (y : Name) (m : ℕ)
+      → applied [] (Swap d x n e y m) k ≡ applied chosen (Swap d x n e y m) k
+  unfolding applied
+  same_swap d x n e y m = refl
 
   pub same_take : (n count : ℕ) → applied [] (Take n count) k ≡ applied chosen (Take n count) k
   unfolding applied

@@ -16,11 +16,11 @@ use Rattle.freeing_laws.specs.Sweep.{AllFit}
 use Rattle.shadow.specs.Agrees.{Agrees, IsOver, IsOverDescription, blocks_written}
 use Rattle.shadow.specs.Claims.{AreUnused, Claim, Covers, KeepsMore, KeepsSame, Room, New_directory, Number, as_count, claim_in, claimed, claimed_by, claimed_in, is_directory_made, kinds_in, number_of, reserved, with_kinds}
 use Rattle.shadow.specs.Committed.{Committed}
-use Rattle.shadow.specs.Log.{effect}
-use Rattle.shadow.specs.Notes.{SamePatches}
+use Rattle.notes.specs.Log.{effect}
+use Rattle.notes.specs.Notes.{SamePatches}
 use Rattle.freeing_laws.proofs.Laws.{sweep_is_tidy_lem}
-use Rattle.shadow.specs.Patches.{AllReach, new_ends, Net, Patches, added_by, form_of, is_new, kept_at, net_at, numbers_in, patched, reopened, reslotted_by, rights_over, slots_in}
-use Rattle.shadow.specs.Steps.{AreApart, CanEdit, IsOne, TakesAll, blocks_by, parents_in}
+use Rattle.notes.specs.Patches.{AllReach, new_ends, Net, Patches, added_by, form_of, is_new, kept_at, net_at, numbers_in, patched, reopened, reslotted_by, rights_over, slots_in}
+use Rattle.notes.specs.Steps.{AreApart, CanEdit, IsOne, TakesAll, blocks_by, parents_in}
 use Rattle.shadow.proofs.noting.AgreementAfterEdit.{Along, along_all, along_same}
 use Rattle.shadow.proofs.claims.EditClaims.{AreFree, all_one, claims_more, other_claims}
 
@@ -29,7 +29,7 @@ pub agrees_none : Agrees [] (record { inodes = []; rights = []; openings = []; s
 agrees_none = record {
   root = λ k. refl;
   count = λ k. refl;
-  largest = λ k. refl;
+  bounds = λ k. refl;
   inodes = λ k n fit. refl;
   rights = λ k n. refl;
   descriptions = λ k d. refl;
@@ -87,7 +87,7 @@ along_of : (ds : List Effect) (p : Patches) → Agrees ds p → AlongAll ds p
 along_of ds p a = record {
   root = a.root;
   count = a.count;
-  largest = a.largest;
+  bounds = a.bounds;
   inodes = a.inodes;
   rights = a.rights;
   descriptions = a.descriptions;
@@ -110,7 +110,7 @@ of_along : (ds : List Effect) (p : Patches) → ((c : Claim) → claimed c ds �
 of_along ds p claims a = record {
   root = a.root;
   count = a.count;
-  largest = a.largest;
+  bounds = a.bounds;
   inodes = a.inodes;
   rights = a.rights;
   descriptions = a.descriptions;
@@ -174,7 +174,7 @@ pub agrees_same : (ds : List Effect) (p q : Patches) → SamePatches p q → Agr
 agrees_same ds p q s a = record {
   root = a.root;
   count = a.count;
-  largest = a.largest;
+  bounds = a.bounds;
   inodes = λ k n fit. a.inodes k n fit ∙ ap (λ c. patched c (get k.inodes n)) (sym (contents n));
   rights = λ k n. a.rights k n ∙ ap (λ o. rights_over o (get k.rights n)) (sym (s.rights n));
   descriptions = λ k d. a.descriptions k d ∙ ap (λ o. reopened o (get k.descriptions d)) (sym (s.openings d));

@@ -14,12 +14,12 @@ use Rattle.freeing_laws.specs.Pipes.{ArePair}
 use Rattle.freeing_laws.proofs.Pipes.{pipes_keep_their_ends_lem}
 use Rattle.freeing_laws.specs.Counts.{named, times, unnamed}
 use Rattle.freeing_laws.specs.Left.{all_named, all_unnamed}
-use Rattle.shadow.specs.declared.change.Contents.{Contents}
-use Rattle.shadow.specs.declared.change.Contents.TheVariants.{Same, Names, Bytes, Pipe as Piped, Fixed as As_fixed}
+use Rattle.notes.specs.declared.change.Contents.{Contents}
+use Rattle.notes.specs.declared.change.Contents.TheVariants.{Same, Names, Bytes, Pipe as Piped, Fixed as As_fixed}
 use Rattle.shadow.specs.Agrees.{IsOver, IsOverDescription}
-use Rattle.shadow.specs.Patches.{AllReach, new_ends, no_change, Patches, added_by, form_of, kept_at, net_at, numbers_in, opening_at, patched, reopened, reslotted, reslotted_by, rights_over, slots_in}
-use Rattle.shadow.specs.Steps.{CanPass, MakesPipe, Applies, AreApart, IsOne, TakesAll, TakesIn, blocks_by, description_after, inode_after, made_after, new_in, numbers_kept, opened_in, parents_in, process_after, rights_after}
-use Rattle.shadow.proofs.noting.EditCases.{applies}
+use Rattle.notes.specs.Patches.{AllReach, new_ends, no_change, Patches, added_by, form_of, kept_at, net_at, numbers_in, opening_at, patched, reopened, reslotted, reslotted_by, rights_over, slots_in}
+use Rattle.notes.specs.Steps.{CanPass, MakesPipe, Applies, AreApart, IsOne, TakesAll, TakesIn, blocks_by, description_after, inode_after, made_after, new_in, numbers_kept, opened_in, parents_in, process_after, rights_after}
+use Rattle.notes.proofs.Laws.{applies}
 use Rattle.shadow.proofs.noting.InodeForms.{over_after, kept_same, still_before}
 use Rattle.shadow.proofs.noting.DescriptionForms.{moved_there, moved_over, lives_before, alive_over}
 
@@ -28,7 +28,7 @@ use Rattle.shadow.proofs.noting.DescriptionForms.{moved_there, moved_over, lives
 pub record Along (done : Kernel → Kernel) (Fit : Kernel → Type 0) (given : ℕ → ℕ) (gone : List ℕ) (Wrote : ℕ → ℕ → Type 0) (p : Patches) : Type 0 where
   pub root : (k : Kernel) → (done k).root ≡ k.root
   pub count : (k : Kernel) → (done k).made ≡ k.made
-  pub largest : (k : Kernel) → (done k).largest ≡ k.largest
+  pub bounds : (k : Kernel) → (done k).bounds ≡ k.bounds
   pub inodes : (k : Kernel) (n : ℕ) → Fit k → get (done k).inodes n ≡ patched (net_at p.inodes n).contents (get k.inodes n)
   pub rights : (k : Kernel) (n : ℕ) → get (done k).rights n ≡ rights_over (kept_at p.rights n) (get k.rights n)
   pub descriptions : (k : Kernel) (d : ℕ) → get (done k).descriptions d ≡ reopened (opening_at p.openings d) (get k.descriptions d)
@@ -82,7 +82,7 @@ pub along_step : (done : Kernel → Kernel) (Fit : Kernel → Type 0) (given : �
 along_step done Fit given gone Wrote p q chosen e one apart t a = record {
   root = λ k. (step k).root ∙ a.root k;
   count = λ k. (step k).made ∙ a.count k;
-  largest = λ k. (step k).largest ∙ a.largest k;
+  bounds = λ k. (step k).bounds ∙ a.bounds k;
   inodes = λ k n fit. (step k).inodes n ∙ ap (inode_after chosen e n) (a.inodes k n fit.0) ∙ sym (t.inodes n (get k.inodes n) (passes k n fit));
   reach = λ k n fit. t.reach n (get k.inodes n) (passes k n fit) (a.reach k n fit.0);
   well = λ k fit well. well_stays chosen (done k) e (a.well k fit.0 well) fit.1;
@@ -152,7 +152,7 @@ pub along_same : (done other : Kernel → Kernel) (Fit Fits' : Kernel → Type 0
 along_same done other Fit Fits' given given' gone gone' Wrote Wrote' p same fits is left wrote a = record {
   root = λ k. ap (λ (k : Kernel). k.root) (same k) ∙ a.root k;
   count = λ k. ap (λ (k : Kernel). k.made) (same k) ∙ a.count k;
-  largest = λ k. ap (λ (k : Kernel). k.largest) (same k) ∙ a.largest k;
+  bounds = λ k. ap (λ (k : Kernel). k.bounds) (same k) ∙ a.bounds k;
   inodes = λ k n fit. ap (λ (k : Kernel). get k.inodes n) (same k) ∙ a.inodes k n (fits k fit);
   rights = λ k n. ap (λ (k : Kernel). get k.rights n) (same k) ∙ a.rights k n;
   descriptions = λ k d. ap (λ (k : Kernel). get k.descriptions d) (same k) ∙ a.descriptions k d;

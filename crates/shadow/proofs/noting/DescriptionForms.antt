@@ -5,12 +5,12 @@ use Rattle.model.specs.State.{Kernel, Description, Process, mapped, offset_in}
 use Rattle.model.specs.Changes.{Edit, Set_offset, at_offset, at_start, number}
 use Rattle.model.specs.Moments.{is_in}
 use Rattle.call_laws.specs.Fits.{Fits}
-use Rattle.shadow.specs.declared.opening.Opening.{Opening}
-use Rattle.shadow.specs.declared.opening.Opening.TheVariants.{Kept, New, Moved}
+use Rattle.notes.specs.declared.opening.Opening.{Opening}
+use Rattle.notes.specs.declared.opening.Opening.TheVariants.{Kept, New, Moved}
 use Rattle.shadow.specs.Agrees.{IsOverDescription}
-use Rattle.shadow.specs.Patches.{is_new, reslotted_by}
-use Rattle.shadow.specs.Steps.{IsOne, description_after, new_in, opened_in, process_after}
-use Rattle.shadow.proofs.noting.EditCases.{by_one}
+use Rattle.notes.specs.Patches.{is_new, reslotted_by}
+use Rattle.notes.specs.Steps.{IsOne, description_after, new_in, opened_in, process_after}
+use Rattle.notes.proofs.Laws.{by_one}
 
 -- what is known of a value by a test
 some_not_none : {A : Type 0} (x : A) → Some x ≢ None
@@ -73,6 +73,8 @@ moved_there chosen e one = by_one (MovedThere chosen)
     (λ p bytes mid f q place o is away same. absurd (not_still place same))
     (λ i pid s g mid f q place o is away same. pipe_moved q (new_in chosen (i + 1)) (new_in chosen (i + 2)) place _ _ o away same)
     (λ m rights mid f q place o is away same. absurd (not_still place same))
+    (λ d x m e y n mid f q place o is away same. absurd (not_still place same))
+    (λ m at count mid f q place o is away same. absurd (not_still place same))
     e one
 
 pub moved_over : (new old : Opening) (there : Bool) (opened : Bool) → is_new new ≡ (opened || is_new old) → IsOverDescription old there
@@ -115,6 +117,8 @@ lives_before chosen e one = by_one (LivesBefore chosen)
     (λ p bytes mid f pid o is changed. absurd (changed refl))
     (λ i q s g mid f pid o is changed. slot_lives q mid f.slot.alive pid o is _ changed)
     (λ m rights mid f pid o is changed. absurd (changed refl))
+    (λ d x m e y n mid f pid o is changed. absurd (changed refl))
+    (λ m at count mid f pid o is changed. absurd (changed refl))
     e one
 
 pub alive_over : (new old : List (ℕ × Option ℕ)) (o : Option Process) → new ≢ [] → (old ≢ [] → is_some o ≡ true) → (old ≡ [] → reslotted_by new None ≢ None → is_some o ≡ true) → is_some o ≡ true

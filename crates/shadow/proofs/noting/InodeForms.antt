@@ -1,21 +1,20 @@
 -- What is kept of an inode lies over what stands there, after one edit more: its form, and what was written.
-use Rattle.std.proofs.Common.{◌≡◌, ◌≢◌, ℕ, ◌+◌, ◌==◌, ◌||◌, Bool, true, false, cond, List, [], ◌∷◌, Option, Some, None, refl, sym, ap, subst, ◌∙◌, eqb-true, ne_eqb, eq-eqb}
+use Rattle.std.proofs.Common.{◌≡◌, ◌≢◌, ℕ, ◌+◌, ◌==◌, ◌||◌, Bool, true, false, cond, List, [], ◌∷◌, Option, Some, None, refl, sym, ap, subst, ◌∙◌, eqb-true, ne_eqb, eq-eqb, arith}
 use Rattle.std.proofs.lemmas.Bool.{false≢true}
+use Rattle.std.proofs.lemmas.List.Sums.{sum_by-cons}
 use Rattle.model.specs.FiniteMap.{get}
 use Rattle.model.specs.State.{Kind, A_file, A_directory, A_pipe, Kernel, Inode, kind, kind_of, mapped}
 use Rattle.model.specs.Changes.{Edit}
 use Rattle.call_laws.specs.Fits.{Fits}
 use Rattle.freeing_laws.specs.Counts.{times}
-use Rattle.shadow.specs.declared.change.Contents.{Contents}
-use Rattle.shadow.specs.declared.change.Contents.TheVariants.{Same, Names, Bytes, Pipe as Piped, Fixed as As_fixed}
-use Rattle.shadow.specs.declared.change.Made.{Made as What}
-use Rattle.shadow.specs.declared.change.Made.TheVariants.{Directory as Dir_made, File as File_made, Pipe as Pipe_made, Fixed as Fixed_made}
-use Rattle.shadow.specs.declared.new_object.NewObject.{NewObject}
-use Rattle.shadow.specs.declared.new_object.NewObject.TheVariants.{Directory as New_directory, File as New_file, Fixed as New_fixed}
+use Rattle.notes.specs.declared.change.Contents.{Contents}
+use Rattle.notes.specs.declared.change.Contents.TheVariants.{Same, Names, Bytes, Pipe as Piped, Fixed as As_fixed}
+use Rattle.notes.specs.declared.change.Made.{Made as What}
+use Rattle.notes.specs.declared.change.Made.TheVariants.{Directory as Dir_made, File as File_made, Pipe as Pipe_made, Fixed as Fixed_made}
 use Rattle.shadow.specs.Agrees.{IsOver}
-use Rattle.shadow.specs.Patches.{of_pipe, of_fixed, Form, no_change, of_names, of_bytes, form_of, numbers_in, patched}
-use Rattle.shadow.specs.Steps.{piped, AreApart, IsOne, filed, form_after, listed, made_after, made_of, new_form, new_in, numbers_kept, parents_in}
-use Rattle.shadow.proofs.noting.EditCases.{by_one}
+use Rattle.notes.specs.Patches.{of_pipe, of_fixed, Form, no_change, of_names, of_bytes, form_of, numbers_in, patched}
+use Rattle.notes.specs.Steps.{piped, AreApart, IsOne, filed, form_after, listed, made_after, new_in, numbers_kept, parents_in}
+use Rattle.notes.proofs.Laws.{by_one}
 use Rattle.shadow.proofs.shared.FixedKinds.{no_directory, no_file, no_pipe}
 
 -- a directory's changes stay a directory's, and a file's a file's
@@ -52,11 +51,6 @@ piped_over (Piped fresh changes) o made is over = over
 piped_over (Names fresh notes) o made is over = absurd cc
 piped_over (Bytes fresh bytes) o made is over = absurd cc
 
-over_new : (kind : Option Kind) (what : NewObject) → IsOver kind (Some (made_of what)) (new_form what)
-over_new kind New_directory = refl
-over_new kind New_file = refl
-over_new kind (New_fixed fixed) = refl
-
 -- nothing was written into a directory, or where nothing stands
 unwritten : (c : Contents) (o : Option Inode) → mapped kind (patched c o) ≡ Some A_directory → [] ≡ numbers_in c
 unwritten Same o is = refl
@@ -80,15 +74,16 @@ abbrev OverAfter : List ℕ → Edit → Type 0
 OverAfter chosen e = AreApart chosen e → (mid : Kernel) → Fits chosen mid e → (n : ℕ) (o : Option Inode) (made : Option What) (c : Contents) → get mid.inodes n ≡ patched c o
     → IsOver (mapped kind o) made (form_of c) → IsOver (mapped kind o) (made_after chosen e n made) (form_after chosen e n (form_of c))
 
-made_over : (what : NewObject) (d m : ℕ) → m ≢ d → (mid : Kernel) → kind_of mid d ≡ Some A_directory → (n : ℕ) (o : Option Inode) (made : Option What) (c : Contents) → get mid.inodes n ≡ patched c o
+-- a new object comes in a directory
+made_over : (what : What) (new : Form) → ((kind : Option Kind) → IsOver kind (Some what) new) → (d m : ℕ) → m ≢ d → (mid : Kernel) → kind_of mid d ≡ Some A_directory → (n : ℕ) (o : Option Inode) (made : Option What) (c : Contents) → get mid.inodes n ≡ patched c o
     → IsOver (mapped kind o) made (form_of c)
-    → IsOver (mapped kind o) (cond (n == m) (Some (made_of what)) made) (cond (n == d) (listed (cond (n == m) (new_form what) (form_of c))) (cond (n == m) (new_form what) (form_of c)))
-made_over what d m apart mid parent n o made c is over = by_tests (n == d) (n == m) refl refl
+    → IsOver (mapped kind o) (cond (n == m) (Some what) made) (cond (n == d) (listed (cond (n == m) new (form_of c))) (cond (n == m) new (form_of c)))
+made_over what new fresh d m apart mid parent n o made c is over = by_tests (n == d) (n == m) refl refl
   where
-    by_tests : (b e : Bool) → (n == d) ≡ b → (n == m) ≡ e → IsOver (mapped kind o) (cond e (Some (made_of what)) made) (cond b (listed (cond e (new_form what) (form_of c))) (cond e (new_form what) (form_of c)))
+    by_tests : (b e : Bool) → (n == d) ≡ b → (n == m) ≡ e → IsOver (mapped kind o) (cond e (Some what) made) (cond b (listed (cond e new (form_of c))) (cond e new (form_of c)))
     by_tests true true h i = absurd (apart (sym (eqb-true n m i) ∙ eqb-true n d h))
     by_tests true false h i = listed_over c o made (found_kind mid n d c o A_directory is h parent) over
-    by_tests false true h i = over_new (mapped kind o) what
+    by_tests false true h i = fresh (mapped kind o)
     by_tests false false h i = over
 
 filed_at : (m : ℕ) (mid : Kernel) → kind_of mid m ≡ Some A_file → (n : ℕ) (o : Option Inode) (made : Option What) (c : Contents) → get mid.inodes n ≡ patched c o
@@ -141,9 +136,9 @@ moved_listed d e mid from onto n o made c is over = by_tests (n == d) (n == e) r
 
 pub over_after : (chosen : List ℕ) (e : Edit) → IsOne e → OverAfter chosen e
 over_after chosen e one = by_one (OverAfter chosen)
-    (λ d x i apart mid f. made_over New_directory d (new_in chosen i) apart mid f.0.parent.directory)
-    (λ d x i apart mid f. made_over New_file d (new_in chosen i) apart mid f.0.parent.directory)
-    (λ d x fixed i apart mid f. made_over (New_fixed fixed) d (new_in chosen i) apart mid f.0.parent.directory)
+    (λ d x i apart mid f. made_over Dir_made (of_names true) (λ kind. refl) d (new_in chosen i) apart mid f.0.parent.directory)
+    (λ d x i apart mid f. made_over File_made (of_bytes true) (λ kind. refl) d (new_in chosen i) apart mid f.0.parent.directory)
+    (λ d x fixed i apart mid f. made_over Fixed_made of_fixed (λ kind. refl) d (new_in chosen i) apart mid f.0.parent.directory)
     (λ d x m apart mid f. listed_at d mid f.0.parent.directory)
     (λ d x m apart mid f. listed_at d mid f.0.parent.directory)
     (λ d x m apart mid f. listed_at d mid f.parent.directory)
@@ -158,6 +153,8 @@ over_after chosen e one = by_one (OverAfter chosen)
     (λ p bytes apart mid f. piped_at p mid f.0)
     (λ i pid s g apart mid f n o made c is over. pipe_made (new_in chosen i) n (mapped kind o) made (form_of c) over)
     (λ m rights apart mid f n o made c is over. over)
+    (λ d x m e y q apart mid f. moved_listed d e mid f.first.parent.directory f.second.parent.directory)
+    (λ m place count apart mid f. filed_at m mid f.0)
     e one
 
 -- what was written before an edit is kept
@@ -209,6 +206,8 @@ kept_same chosen e one = by_one (KeptSame chosen)
     (λ p bytes mid f n o c is. refl)
     (λ i pid s g mid f. new_kept (new_in chosen i) mid f.pipe.inode)
     (λ m rights mid f n o c is. refl)
+    (λ d x m e y q mid f. moved_kept d e mid f.first.parent.directory f.second.parent.directory)
+    (λ m place count mid f n o c is. refl)
     e one
 
 -- what has changes after an edit, or gets a name by it, had changes before
@@ -233,11 +232,6 @@ piped_some (of_bytes fresh) e = absurd cc
 piped_some (of_pipe fresh) e = absurd cc
 piped_some of_fixed e = absurd cc
 
-made_some : (what : NewObject) → new_form what ≢ no_change
-made_some New_directory e = absurd cc
-made_some New_file e = absurd cc
-made_some (New_fixed fixed) e = absurd cc
-
 no_parent : (n d : ℕ) → (n == d) ≡ false → times n (d ∷ []) ≡ 0
 no_parent n d h = ap (λ b. 0 + cond b 1 0) (ne_eqb d n (λ e. false≢true (sym h ∙ eq-eqb n d (sym e))))
 
@@ -251,13 +245,13 @@ listed_before d n form none = by_test (n == d) refl none
 abbrev StillBefore : List ℕ → Edit → Type 0
 StillBefore chosen e = (n : ℕ) (form : Form) → form_after chosen e n form ≡ no_change → (form ≡ no_change) × (times n (parents_in e) ≡ 0)
 
-made_before : (what : NewObject) (d m n : ℕ) (form : Form) → cond (n == d) (listed (cond (n == m) (new_form what) form)) (cond (n == m) (new_form what) form) ≡ no_change → (form ≡ no_change) × (times n (d ∷ []) ≡ 0)
-made_before what d m n form none =
-    let outer = listed_before d n (cond (n == m) (new_form what) form) none in
+made_before : (new : Form) → new ≢ no_change → (d m n : ℕ) (form : Form) → cond (n == d) (listed (cond (n == m) new form)) (cond (n == m) new form) ≡ no_change → (form ≡ no_change) × (times n (d ∷ []) ≡ 0)
+made_before new some d m n form none =
+    let outer = listed_before d n (cond (n == m) new form) none in
     (by_test (n == m) outer.0, no_parent n d outer.1)
   where
-    by_test : (b : Bool) → cond b (new_form what) form ≡ no_change → form ≡ no_change
-    by_test true e = absurd (made_some what e)
+    by_test : (b : Bool) → cond b new form ≡ no_change → form ≡ no_change
+    by_test true e = absurd (some e)
     by_test false e = e
 
 filed_before : (m n : ℕ) (form : Form) → cond (n == m) (filed form) form ≡ no_change → (form ≡ no_change) × (times n [] ≡ 0)
@@ -274,11 +268,24 @@ changed_before m n new form some none = by_test (n == m) none
     by_test true e = absurd (some e)
     by_test false e = (e, refl)
 
+two_parents : (n d e : ℕ) → (n == d) ≡ false → (n == e) ≡ false → times n (d ∷ e ∷ []) ≡ 0
+two_parents n d e h i =
+    let both : times n (d ∷ e ∷ []) ≡ cond (d == n) 1 0 + times n (e ∷ []) = sum_by-cons (λ v. cond (v == n) 1 0) d (e ∷ []) in
+    let one : cond {A = ℕ} (d == n) 1 0 ≡ 0 = ap (λ b. cond {A = ℕ} b 1 0) (ne_eqb d n (λ same. false≢true (sym h ∙ eq-eqb n d (sym same)))) in
+    let other : times n (e ∷ []) ≡ 0 = no_parent n e i in
+    omega arith
+
+swapped_before : (d e n : ℕ) (form : Form) → cond (n == e) (listed (cond (n == d) (listed form) form)) (cond (n == d) (listed form) form) ≡ no_change → (form ≡ no_change) × (times n (d ∷ e ∷ []) ≡ 0)
+swapped_before d e n form none =
+    let outer = listed_before e n (cond (n == d) (listed form) form) none in
+    let inner = listed_before d n form outer.0 in
+    (inner.0, two_parents n d e inner.1 outer.1)
+
 pub still_before : (chosen : List ℕ) (e : Edit) → IsOne e → StillBefore chosen e
 still_before chosen e one = by_one (StillBefore chosen)
-    (λ d x i. made_before New_directory d (new_in chosen i))
-    (λ d x i. made_before New_file d (new_in chosen i))
-    (λ d x fixed i. made_before (New_fixed fixed) d (new_in chosen i))
+    (λ d x i. made_before (of_names true) (λ e. absurd cc) d (new_in chosen i))
+    (λ d x i. made_before (of_bytes true) (λ e. absurd cc) d (new_in chosen i))
+    (λ d x fixed i. made_before of_fixed (λ e. absurd cc) d (new_in chosen i))
     (λ d x m n form none. ((listed_before d n form none).0, refl))
     (λ d x m n form none. ((listed_before d n form none).0, no_parent n d (listed_before d n form none).1))
     (λ d x m n form none. ((listed_before d n form none).0, refl))
@@ -293,4 +300,6 @@ still_before chosen e one = by_one (StillBefore chosen)
     (λ p bytes n form none. changed_before p n (piped form) form (piped_some form) none)
     (λ i pid s g n form none. changed_before (new_in chosen i) n (of_pipe true) form (λ e. absurd cc) none)
     (λ m rights n form none. (none, refl))
+    (λ d x m e y q n form none. swapped_before d e n form none)
+    (λ m place count. filed_before m)
     e one

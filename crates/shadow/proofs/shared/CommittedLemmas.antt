@@ -73,16 +73,16 @@ directories_kept ps s d is = of_listed ps s d (by_place (get s.places d) (ap (ma
     by_place (Some place) is = shown_listed place.stage place.object is
 
 -- the first state
-pub first_state : (ps : Processes) (setup : Setup) (s : Numbers) → ps ≡ record { list = map fresh setup.priorities; largest = setup.largest } → s.root ≡ 0 → inodes s ≡ insert empty s.root (Directory empty) → descriptions s ≡ empty → s.rights ≡ empty → state_of ps s ≡ start 0 setup
+pub first_state : (ps : Processes) (setup : Setup) (s : Numbers) → ps ≡ record { list = map fresh setup.priorities; bounds = setup.bounds } → s.root ≡ 0 → inodes s ≡ insert empty s.root (Directory empty) → descriptions s ≡ empty → s.rights ≡ empty → state_of ps s ≡ start 0 setup
 first_state ps setup s list root shown opened_same unset =
     ap (λ ps. state_of ps s) list ∙ (λ i. record {
       root = 0;
       inodes = (shown ∙ ap (λ r. insert empty r (Directory empty)) root) i;
       rights = unset i;
       descriptions = opened_same i;
-      processes = sym (begun setup.priorities setup.largest) i;
+      processes = sym (begun setup.priorities setup.bounds) i;
       made = length-map setup.priorities fresh i;
-      largest = setup.largest;
+      bounds = setup.bounds;
     })
 
 -- a reserved number is in use, and what was in use stays so

@@ -11,6 +11,7 @@ use Rattle.model.specs.Moments.{with_processes}
 use Rattle.model.proofs.Laws.{get_same, get_other, tied, untied}
 use Rattle.shadow.specs.Stored.{Processes, numbered}
 use Rattle.shadow.proofs.shared.PlaceLemmas.{find_placed, none_before}
+use Rattle.model.specs.Limits.{Bounds}
 
 -- a number stands for the process at its place
 pub process_of_number : (ps : Processes) (q : ℕ) → 0 < q → get (numbered ps) q ≡ get_or ps.list (q - 1) None
@@ -66,7 +67,7 @@ or_none : (o : Option Process) → or_else o None ≡ o
 or_none None = refl
 or_none (Some p) = refl
 
-pub begun : (ps : List ℕ) (largest : ℕ) → with_processes 0 ps empty ≡ numbered (record { list = map fresh ps; largest = largest })
-begun ps largest = same_map nat_cmp_total nat_cmp-IsAntisymmetric _ _ (λ q.
+pub begun : (ps : List ℕ) (bounds : Bounds) → with_processes 0 ps empty ≡ numbered (record { list = map fresh ps; bounds = bounds })
+begun ps bounds = same_map nat_cmp_total nat_cmp-IsAntisymmetric _ _ (λ q.
     get_begun 0 ps empty q ∙ ap (or_else (find nat_cmp q (placed 1 (map fresh ps)))) (get-empty nat_cmp q) ∙ or_none (find nat_cmp q (placed 1 (map fresh ps)))
     ∙ sym (get-from_entries nat_cmp_total (placed 1 (map fresh ps)) q))

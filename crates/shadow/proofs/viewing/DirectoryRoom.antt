@@ -6,15 +6,15 @@ use Rattle.model.specs.FiniteMap.{FinMap, get}
 use Rattle.model.specs.State.{A_directory, Inode, kind, mapped}
 use Rattle.model.specs.Effects.{Effect, all_done}
 use Rattle.freeing_laws.specs.Sweep.{AllFit}
-use Rattle.shadow.specs.declared.change.Contents.{Contents}
-use Rattle.shadow.specs.declared.change.Contents.TheVariants.{Same, Names, Bytes, Pipe, Fixed}
-use Rattle.shadow.specs.declared.change.Made.{Made}
-use Rattle.shadow.specs.declared.change.Made.TheVariants.{Directory, File, Pipe as New_pipe, Fixed as New_fixed}
+use Rattle.notes.specs.declared.change.Contents.{Contents}
+use Rattle.notes.specs.declared.change.Contents.TheVariants.{Same, Names, Bytes, Pipe, Fixed}
+use Rattle.notes.specs.declared.change.Made.{Made}
+use Rattle.notes.specs.declared.change.Made.TheVariants.{Directory, File, Pipe as New_pipe, Fixed as New_fixed}
 use Rattle.shadow.specs.Agrees.{Agrees, IsOver}
 use Rattle.shadow.specs.Claims.{Covers, IsDirectory, New_directory, as_count, coming_directory, is_directory_made, room_of}
 use Rattle.shadow.specs.Committed.{Committed, Reserve}
 use Rattle.shadow.specs.Looks.{DirectoriesAreKept}
-use Rattle.shadow.specs.Patches.{Patches, form_of, net_at, patched}
+use Rattle.notes.specs.Patches.{Patches, form_of, net_at, patched}
 use Rattle.shadow.proofs.shared.FixedKinds.{no_directory}
 
 none_coming : (o : Option Reserve) → room_of o ≡ None → coming_directory o ≡ 0

@@ -10,7 +10,7 @@ use Rattle.freeing_laws.proofs.Pipes.{pipes_keep_their_ends_lem}
 use Rattle.store.specs.Shown.{pipe_inode}
 use Rattle.store.specs.declared.OpenPipe.{OpenPipe}
 use Rattle.shadow.specs.Agrees.{Agrees}
-use Rattle.shadow.specs.Patches.{Patches, net_at, new_ends}
+use Rattle.notes.specs.Patches.{Patches, net_at, new_ends}
 
 -- of a pipe that is new
 pub new_pair_told : (ds : List Effect) (p : Patches) → Agrees ds p → (k : Kernel) → WellFormed k → AllFit ds k → (n : ℕ) (o : Option (ℕ × ℕ)) → o ≡ new_ends (net_at p.inodes n).contents

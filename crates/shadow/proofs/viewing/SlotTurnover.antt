@@ -10,10 +10,9 @@ use Rattle.model.proofs.Laws.{get_other, get_same}
 use Rattle.freeing_laws.specs.Counts.{times}
 use Rattle.freeing_laws.proofs.Openings.{openings_change_lem}
 use Rattle.freeing_laws.proofs.Pipes.{pipes_keep_their_ends_lem}
-use Rattle.shadow.specs.Patches.{kept_at, reslotted, reslotted_by, slots_in, with_slots}
-use Rattle.shadow.specs.Openings.{AreOnce}
-use Rattle.shadow.proofs.noting.DistinctProcesses.{key_at, kept_its, none_ahead, patch_at}
-use Rattle.shadow.proofs.noting.SlotLemmas.{Entries, pushed_other, pushed_same}
+use Rattle.notes.specs.Patches.{kept_at, reslotted, reslotted_by, slots_in, with_slots}
+use Rattle.notes.specs.Openings.{AreOnce}
+use Rattle.notes.proofs.Laws.{Entries, kept_its, key_at, none_ahead, patch_at, pushed_other, pushed_same}
 
 -- the state with other processes
 abbrev with_processes : Kernel → FinMap nat_cmp Process → Kernel

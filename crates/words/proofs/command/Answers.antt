@@ -10,6 +10,8 @@ returns c =
     let ways = c.in_ok-with_stream.ensures.shape c.stream_arg.ensures.local ∙ ap₂ with_rule second c.stream_arg.ensures.rule in
     let third = c.in_ok-with_limit.ensures.shape c.limit_arg.ensures.local ∙ ap₂ with_rule ways c.limit_arg.ensures.rule in
     let fourth = c.in_ok-with_file_limit.ensures.shape c.file_limit_arg.ensures.local ∙ ap₂ with_rule third c.file_limit_arg.ensures.rule in
-    let fifth = c.in_ok-with_check.ensures.shape c.check_arg.ensures.local ∙ ap₂ with_rule fourth c.check_arg.ensures.rule in
+    let open_files = c.in_ok-with_descriptors.ensures.shape c.descriptors_arg.ensures.local ∙ ap₂ with_rule fourth c.descriptors_arg.ensures.rule in
+    let paths = c.in_ok-with_path_limit.ensures.shape c.path_limit_arg.ensures.local ∙ ap₂ with_rule open_files c.path_limit_arg.ensures.rule in
+    let fifth = c.in_ok-with_check.ensures.shape c.check_arg.ensures.local ∙ ap₂ with_rule paths c.check_arg.ensures.rule in
     let sixth = c.in_ok-with_file.ensures.shape c.file_arg.ensures.local ∙ ap₂ with_rule fifth c.file_arg.ensures.rule in
     ap app_of_fields c.after_help.ensures ∙ ap app_of_fields c.about.ensures ∙ ap app_of_fields c.override_usage.ensures ∙ sixth

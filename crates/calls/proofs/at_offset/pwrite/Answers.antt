@@ -19,7 +19,7 @@ pub returns-in_err-offset : goal.returns-in_err-offset
 returns-in_err-offset g c = goes _ (c.in_ok-it.ensures _) (goes _ (c.in_ok-refuse_if.ensures _ _) (goes _ (c.in_ok-must_not_be_pipe.ensures _ _) (stops _ c.from_residual-in_err-offset.ensures.1 (via (ap (λ (at : Option ℕ). or_refuse EINVAL at) (ap offset_named (sym (to_z-of_z _ _ c.ranges.offset)) ∙ sym c.offset_named.ensures)) (c.in_err-offset.ensures _ _)))))
 
 pub returns-then-is_empty : goal.returns-then-is_empty
-returns-then-is_empty g c = goes _ (c.in_ok-it.ensures _) (goes _ (c.in_ok-refuse_if.ensures _ _) (goes _ (c.in_ok-must_not_be_pipe.ensures _ _) (goes _ (via (ap (λ (at : Option ℕ). or_refuse EINVAL at) (ap offset_named (sym (to_z-of_z _ _ c.ranges.offset)) ∙ sym c.offset_named.ensures)) (c.in_ok-offset.ensures _ _)) (via (ap (λ b. if b then unchanged (Count 0) else write_from (g.L.Look.state c.args.look.now).largest c.in_ok-it.it.inode c.in_ok-offset.offset c.args.bytes.now) (sym c.is_empty.ensures ∙ c.if-is_empty.true)) (c.unchanged.ensures _ _)))))
+returns-then-is_empty g c = goes _ (c.in_ok-it.ensures _) (goes _ (c.in_ok-refuse_if.ensures _ _) (goes _ (c.in_ok-must_not_be_pipe.ensures _ _) (goes _ (via (ap (λ (at : Option ℕ). or_refuse EINVAL at) (ap offset_named (sym (to_z-of_z _ _ c.ranges.offset)) ∙ sym c.offset_named.ensures)) (c.in_ok-offset.ensures _ _)) (via (ap (λ b. if b then unchanged (Count 0) else write_from (g.L.Look.state c.args.look.now).bounds.file_bytes c.in_ok-it.it.inode c.in_ok-offset.offset c.args.bytes.now) (sym c.is_empty.ensures ∙ c.if-is_empty.true)) (c.unchanged.ensures _ _)))))
 
 pub returns-else-is_empty : goal.returns-else-is_empty
-returns-else-is_empty g c = goes _ (c.in_ok-it.ensures _) (goes _ (c.in_ok-refuse_if.ensures _ _) (goes _ (c.in_ok-must_not_be_pipe.ensures _ _) (goes _ (via (ap (λ (at : Option ℕ). or_refuse EINVAL at) (ap offset_named (sym (to_z-of_z _ _ c.ranges.offset)) ∙ sym c.offset_named.ensures)) (c.in_ok-offset.ensures _ _)) (via (ap (λ b. if b then unchanged (Count 0) else write_from (g.L.Look.state c.args.look.now).largest c.in_ok-it.it.inode c.in_ok-offset.offset c.args.bytes.now) (sym c.is_empty.ensures ∙ c.if-is_empty.false)) (via (ap (λ m. write_from m c.in_ok-it.it.inode c.in_ok-offset.offset c.args.bytes.now) (sym c.largest.ensures)) c.write_from.ensures)))))
+returns-else-is_empty g c = goes _ (c.in_ok-it.ensures _) (goes _ (c.in_ok-refuse_if.ensures _ _) (goes _ (c.in_ok-must_not_be_pipe.ensures _ _) (goes _ (via (ap (λ (at : Option ℕ). or_refuse EINVAL at) (ap offset_named (sym (to_z-of_z _ _ c.ranges.offset)) ∙ sym c.offset_named.ensures)) (c.in_ok-offset.ensures _ _)) (via (ap (λ b. if b then unchanged (Count 0) else write_from (g.L.Look.state c.args.look.now).bounds.file_bytes c.in_ok-it.it.inode c.in_ok-offset.offset c.args.bytes.now) (sym c.is_empty.ensures ∙ c.if-is_empty.false)) (via (ap (λ m. write_from m c.in_ok-it.it.inode c.in_ok-offset.offset c.args.bytes.now) (sym c.largest.ensures)) c.write_from.ensures)))))

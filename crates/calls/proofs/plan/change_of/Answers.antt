@@ -19,6 +19,9 @@ returns-in-Write g c = via (ap (λ call. plan (own (g.L.Look.state c.args.look.n
 pub returns-in-Ftruncate : goal.returns-in-Ftruncate
 returns-in-Ftruncate g c = via (ap (λ call. plan (own (g.L.Look.state c.args.look.now) c.args.pid call) call) c.in-Ftruncate.is) c.ftruncate.ensures
 
+pub returns-in-Exchange : goal.returns-in-Exchange
+returns-in-Exchange g c = via (ap (λ call. plan (own (g.L.Look.state c.args.look.now) c.args.pid call) call) c.in-Exchange.is) (c.exchange.ensures c.args.pid)
+
 pub returns-in-Truncate : goal.returns-in-Truncate
 returns-in-Truncate g c = via (ap (λ call. plan (own (g.L.Look.state c.args.look.now) c.args.pid call) call) c.in-Truncate.is) (c.truncate.ensures c.args.pid)
 

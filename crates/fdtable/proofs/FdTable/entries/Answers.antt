@@ -1,23 +1,22 @@
 use Rattle.std.proofs.Common.{rules, ◌≡◌, ◌+◌, ◌-◌, ◌++◌, ◌∷◌, ◌∙◌, [], ℕ, suc, Some, None, sym, ap, arith, append-nil}
 use Rattle.model.specs.FiniteMap as map
-use Rattle.ids.specs.declared.limits.TheConstants.{DESCRIPTORS}
-use Rattle.fdtable.proofs.Opened.{open_from, open_all, open_more, open_none, open_past}
+use Rattle.fdtable.proofs.Opened.{all_open, none_behind, open_from, open_more, open_none, open_past}
 use Rattle.fdtable.proofs.FdTable.entries.Goals as goal
 use Rattle.fdtable.proofs.FdTable.entries.Goals.{in-Some+in_ok-push, in_default}
 
 pub loop-number-init : goal.loop-number-init
 loop-number-init c =
-    ap (λ es. es ++ open_from c.args.self.now 0 DESCRIPTORS) c.new-entries.ensures.items
-    ∙ ap (λ m. open_from m 0 DESCRIPTORS) (sym c.self.view_is)
-    ∙ ap (open_from (map.from_entries _) 0) (sym c.self.invariant)
-    ∙ open_all c.self.inside.slots ∙ ap map.entries c.self.view_is
+    let whole : c.end-number-end.result - 0 ≡ c.end-number-end.result = omega arith in
+    ap (λ es. es ++ open_from c.args.self.now 0 (c.end-number-end.result - 0)) c.new-entries.ensures.items
+    ∙ ap (open_from c.args.self.now 0) whole
+    ∙ all_open c.args.self.now c.end-number-end.result (none_behind c.args.self.now c.end-number-end.result c.end-number-end.ensures.open)
 
 pub loop-number-preserved : goal.loop-number-preserved
 loop-number-preserved c =
     let m = c.args.self.now in
     let k : ℕ = c.loop-number.number in
-    let rest : ℕ = DESCRIPTORS - (k + 1) in
-    let more : suc rest ≡ DESCRIPTORS - k = omega arith in
+    let rest : ℕ = c.end-number-end.result - (k + 1) in
+    let more : suc rest ≡ c.end-number-end.result - k = omega arith in
     let so_far = c.loop-number.entries.items in
     elim c.match-get.branch [
       | in-Some+in_ok-push w ↦ (
@@ -32,7 +31,7 @@ loop-number-preserved c =
 
 pub returns : goal.returns
 returns c =
-    let none : DESCRIPTORS - c.loop-number.number ≡ 0 = omega arith in
+    let none : c.end-number-end.result - c.loop-number.number ≡ 0 = omega arith in
     sym (append-nil c.loop-number.entries.items)
     ∙ ap (λ es. c.loop-number.entries.items ++ es) (sym (open_none c.args.self.now c.loop-number.number))
     ∙ ap (λ n. c.loop-number.entries.items ++ open_from c.args.self.now c.loop-number.number n) (sym none)

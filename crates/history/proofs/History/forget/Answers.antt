@@ -5,6 +5,7 @@ use Rattle.history.specs.Past.{counts_in, entries_in}
 use Rattle.std.proofs.lemmas.Bool.{false≢true}
 use Rattle.std.proofs.lemmas.List.{length-append}
 use Rattle.history.specs.declared.past.Past.{Past}
+use Rattle.ids.specs.Bounds.{bounds_of}
 use Rattle.history.proofs.Kept.{count_is, kept_are}
 use Rattle.history.proofs.History.forget.Goals as goal
 
@@ -12,7 +13,7 @@ pub returns-clause-yes : goal.returns-clause-yes
 returns-clause-yes c done =
     let past = c.self.inside.past in
     let es : List Entry = c.self.inside.entries.items in
-    let log : List Entry → List ℕ → Log = λ entries forgotten. record { entries = entries; priorities = c.self.inside.priorities.items; limit = c.self.inside.limits.entries; forgotten = forgotten; largest = c.self.inside.limits.file_bytes } in
+    let log : List Entry → List ℕ → Log = λ entries forgotten. record { entries = entries; priorities = c.self.inside.priorities.items; limit = c.self.inside.limits.entries; forgotten = forgotten; bounds = bounds_of c.self.inside.limits } in
     let entries : entries_in c.add.new.self ++ c.clear.new.self.items ≡ entries_in past ++ es =
     ap (λ x. x ++ c.clear.new.self.items) c.add.ensures.entries ∙ ap (λ x. (entries_in past ++ es) ++ x) c.clear.ensures.items ∙ append-nil (entries_in past ++ es) in
     let counts : counts_in c.add.new.self ≡ counts_in past ++ length (kept (log (entries_in past ++ es) (counts_in past))) ∷ [] =

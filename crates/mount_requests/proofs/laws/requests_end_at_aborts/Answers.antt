@@ -1,4 +1,4 @@
-use Rattle.mount_requests.proofs.Ending.{create, find, link, list, list_anew, look, look_up, make_directory, make_link, make_node, move_name, open_file, read, read_link, remove, set, write}
+use Rattle.mount_requests.proofs.Ending.{allocate, copy, create, exchange, find, link, list, list_anew, look, look_up, make_directory, make_link, make_node, move_name, open_file, read, read_link, remove, seek, set, write}
 use Rattle.mount_requests.proofs.laws.requests_end_at_aborts.Goals as goal
 
 pub returns : goal.returns
@@ -13,11 +13,15 @@ returns c = record {
   make_node = make_node;
   link = link;
   remove = remove;
+  exchange = exchange;
   move = move_name;
   open_file = open_file;
   create = create;
   read = read;
   write = write;
+  seek = seek;
+  allocate = allocate;
+  copy = copy;
   list = list;
   list_anew = list_anew;
 }

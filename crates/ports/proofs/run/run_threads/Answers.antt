@@ -8,6 +8,7 @@ use Rattle.turnstile.specs.Calls.{KeepsPass, first_passes, living_numbers}
 use Rattle.turnstile.specs.Histories.{Begins}
 use Rattle.turnstile.specs.Passes.{PassView}
 use Rattle.ports.proofs.run.run_threads.Goals as goal
+use Rattle.ids.specs.Bounds.{bounds_of}
 
 pub worked-requires-clause-begun : goal.worked-requires-clause-begun
 worked-requires-clause-begun g c κs within =
@@ -28,7 +29,7 @@ returns-in-Some g c =
     let first = start 0 (setup_for script c.args.limits) in
     let passes = c.in_ok-passes.passes.items in
     let valid : AreValidPriorities script.priorities = search rules in
-    let begins : gate.start ≡ record { entries = []; priorities = script.priorities; limit = c.args.limits.entries; forgotten = []; largest = c.args.limits.file_bytes } = search rules in
+    let begins : gate.start ≡ record { entries = []; priorities = script.priorities; limit = c.args.limits.entries; forgotten = []; bounds = bounds_of c.args.limits } = search rules in
     let fresh : IsFresh script c.args.limits gate = record { gate = begins; some = valid.some; few = valid.few } in
     let given : AreWorked script.lines gate (map (λ (p : PassView). p.pid) c.in-Ok.passes.items) passes = search rules in
     let firsts : c.in-Ok.passes.items ≡ first_passes gate first = search rules in

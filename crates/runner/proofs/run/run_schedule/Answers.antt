@@ -6,6 +6,7 @@ use Rattle.runner.specs.Steps.{Stops, limits_of}
 use Rattle.script.specs.Steps.{steps}
 use Rattle.runner.proofs.Stepping.{ended}
 use Rattle.runner.proofs.run.run_schedule.Goals as goal
+use Rattle.ids.specs.Bounds.{bounds_of}
 
 pub returns-clause-fault : goal.returns-clause-fault
 returns-clause-fault g c =
@@ -18,7 +19,7 @@ returns-clause-fault g c =
     let given = g.I.Source.remaining c.args.source.now in
     let left = g.I.Source.remaining c.script_in.new.source in
     let both : GivesBoth given left c.args.list.now script pids = record { given = search rules; scheduled = search rules } in
-    let log : (g.K.Machine.shown c.in-Ok-with_limits.kernel).log ≡ record { entries = []; priorities = script.priorities; limit = c.args.limits.entries; forgotten = []; largest = c.args.limits.file_bytes } = search rules in
+    let log : (g.K.Machine.shown c.in-Ok-with_limits.kernel).log ≡ record { entries = []; priorities = script.priorities; limit = c.args.limits.entries; forgotten = []; bounds = bounds_of c.args.limits } = search rules in
     let is : items ≡ steps script.lines pids = search rules in
     let there : Stops fault (g.K.Machine.shown c.in-Ok-with_limits.kernel).log.priorities (limits_of (g.K.Machine.shown c.in-Ok-with_limits.kernel).log) items old new = search rules in
     let here = subst (λ (l : Log). Stops fault l.priorities (limits_of l) items old new) log there in

@@ -1,11 +1,11 @@
-use Rattle.std.proofs.Common.{◌≡◌, ℕ, ◌+◌, ◌<◌, [], ◌∷◌, List, length, drop, get_or, sym, ap, subst, ◌∙◌, add-one}
+use Rattle.std.proofs.Common.{◌≡◌, ℕ, ◌+◌, ◌<◌, [], ◌∷◌, List, length, drop, get_or, sym, ap, ◌∙◌, add-one}
 use Rattle.std.proofs.Math.Seq.{drop-cons}
 use Rattle.std.proofs.lemmas.List.{drop_all}
 use Rattle.std.specs.List.{flat_map}
 use Rattle.model.specs.FiniteMap.{entries}
 use Rattle.fdtable.specs.Patches.{Given}
 use Rattle.freeing_laws.specs.Sweep.{all_closed}
-use Rattle.shadow.specs.Laid.{Frees, given_by, given_in}
+use Rattle.shadow.specs.Laid.{given_by, given_in}
 use Rattle.shadow.proofs.freeing.RemovalSteps.{closed_append, leaves_all, leaves_less, leaves_none}
 use Rattle.shadow.proofs.closing.close_former.Goals as goal
 
@@ -14,14 +14,14 @@ this_one : (gs : List (ℕ × Given)) (i : ℕ) (g : ℕ × Given) → i < lengt
 this_one gs i g low is = (λ j. is j ∷ drop (add-one i j) gs) ∙ sym (drop-cons gs i g low)
 
 pub loop-pid-init : goal.loop-pid-init
-loop-pid-init c = leaves_all all_closed c.args.store.now (given_in c.deref-pid-items.result.now) c.requires
+loop-pid-init c = leaves_all all_closed c.args.store.now (given_in c.args.former.now) c.requires
 
 pub close_given-requires : goal.close_given-requires
 close_given-requires c = c.loop-pid.invariant.some
 
 pub loop-pid-preserved : goal.loop-pid-preserved
 loop-pid-preserved c =
-    let gs : List (ℕ × Given) = c.deref-pid-items.result.now in
+    let gs : List (ℕ × Given) = c.args.former.now in
     let i : ℕ = c.loop-pid._pid-index in
     let g : ℕ × Given = c.loop-pid-item.result in
     let part : List ℕ = flat_map (λ g. given_by g.1) (entries g.1) in
@@ -31,9 +31,7 @@ loop-pid-preserved c =
 
 pub returns : goal.returns
 returns c =
-    let gs : List (ℕ × Given) = c.deref-pid-items.result.now in
+    let gs : List (ℕ × Given) = c.args.former.now in
     let i : ℕ = c.loop-pid._pid-index in
     let end : drop i gs ≡ [] = drop_all i gs c.loop-pid-test.false in
-    let same : gs ≡ c.args.former.now = c.deref-pid-items.ensures.value ∙ c.former.view_is in
-    λ ps holds. subst (λ gs. Frees (all_closed (given_in gs)) ps c.args.store.now c.loop-pid.store) same
-    (leaves_none all_closed c.args.store.now c.loop-pid.store (given_in gs) (given_in (drop i gs)) (λ k. ap (λ gs. all_closed (given_in gs) k) end) c.loop-pid.invariant ps holds)
+    leaves_none all_closed c.args.store.now c.loop-pid.store (given_in gs) (given_in (drop i gs)) (λ k. ap (λ gs. all_closed (given_in gs) k) end) c.loop-pid.invariant

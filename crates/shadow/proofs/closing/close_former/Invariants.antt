@@ -6,4 +6,4 @@ use Rattle.shadow.proofs.freeing.RemovalSteps.{Leaves}
 use Rattle.shadow.proofs.closing.close_former.Given as goal
 
 abbrev pub invariant-loop-pid : goal.invariant-loop-pid
-invariant-loop-pid l = Leaves all_closed l.fn.store l.store (given_in l._pid-items) (given_in (drop l._pid-index l._pid-items))
+invariant-loop-pid l = Leaves all_closed l.fn.store l.store (given_in l.former) (given_in (drop l._pid-index l.former))

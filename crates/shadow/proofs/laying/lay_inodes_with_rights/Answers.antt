@@ -1,7 +1,7 @@
 use Rattle.std.proofs.Common.{◌∙◌, sym, ap, subst}
 use Rattle.model.specs.FiniteMap.{get}
 use Rattle.shadow.specs.Laid.{IsCarried}
-use Rattle.shadow.specs.Patches.{kept_at, rights_over}
+use Rattle.notes.specs.Patches.{kept_at, rights_over}
 use Rattle.shadow.proofs.committing.RightsSteps.{set_then}
 use Rattle.shadow.proofs.laying.lay_inodes_with_rights.Goals as goal
 

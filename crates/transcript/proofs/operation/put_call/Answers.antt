@@ -29,6 +29,9 @@ returns-in-Ftruncate g c = Prints-as c.put_numbers-in-Ftruncate.ensures (search 
 pub returns-in-Truncate : goal.returns-in-Truncate
 returns-in-Truncate g c = Prints-as c.put_truncate.ensures (search rules)
 
+pub returns-in-Fallocate : goal.returns-in-Fallocate
+returns-in-Fallocate g c = Prints-as c.put_fallocate.ensures (search rules)
+
 pub returns-in-Stat : goal.returns-in-Stat
 returns-in-Stat g c = Prints-as c.put_path.ensures (search rules)
 
@@ -43,6 +46,9 @@ returns-in-Unlink g c = Prints-as c.put_path-in-Unlink.ensures (search rules)
 
 pub returns-in-Rename : goal.returns-in-Rename
 returns-in-Rename g c = Prints-as c.put_paths-in-Rename.ensures (search rules)
+
+pub returns-in-Exchange : goal.returns-in-Exchange
+returns-in-Exchange g c = Prints-as c.put_paths-in-Exchange.ensures (search rules)
 
 pub returns-in-Mkdir : goal.returns-in-Mkdir
 returns-in-Mkdir g c = Prints-as c.put_path-in-Mkdir.ensures (search rules)

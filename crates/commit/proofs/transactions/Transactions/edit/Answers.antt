@@ -1,6 +1,6 @@
 use Rattle.std.proofs.Common.{Result, Ok, Err, ap, sym, subst, ◌∙◌}
 use Rattle.std.specs.Result.{OnErr}
-use Rattle.shadow.specs.Log.{effect}
+use Rattle.notes.specs.Log.{effect}
 use Rattle.shadow.specs.Claims.{Covers}
 use Rattle.commit.specs.Edits.{AreNew, with_change}
 use Rattle.commit.specs.ProcessStates.{views, slot_at}

@@ -13,3 +13,9 @@ returns-in-Write-clause-answers g c = answers_files (seen c.args.self.now) (seen
 
 pub returns-in-Lseek-clause-answers : goal.returns-in-Lseek-clause-answers
 returns-in-Lseek-clause-answers g c = answers_files (seen c.args.self.now) (seen c.seek.new.self) c.args.hand.now.pid c.args.node _ _ _ c.in-Lseek.is c.seek.ensures.answers
+
+pub returns-in-Fallocate-clause-answers : goal.returns-in-Fallocate-clause-answers
+returns-in-Fallocate-clause-answers g c = answers_files (seen c.args.self.now) (seen c.fallocate.new.self) c.args.hand.now.pid c.args.node _ _ _ c.in-Fallocate.is c.fallocate.ensures.answers
+
+pub returns-in-CopyFileRange-clause-answers : goal.returns-in-CopyFileRange-clause-answers
+returns-in-CopyFileRange-clause-answers g c = answers_files (seen c.args.self.now) (seen c.copy.new.self) c.args.hand.now.pid c.args.node _ _ _ c.in-CopyFileRange.is c.copy.ensures.answers

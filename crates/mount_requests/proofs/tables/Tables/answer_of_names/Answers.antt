@@ -26,4 +26,4 @@ pub returns-in-RmDir-clause-answers : goal.returns-in-RmDir-clause-answers
 returns-in-RmDir-clause-answers g c = answers_names (seen c.args.self.now) (seen c.remove_directory.new.self) c.args.hand.now.pid c.args.caller _ _ _ c.in-RmDir.is c.remove_directory.ensures.answers
 
 pub returns-in-Rename-clause-answers : goal.returns-in-Rename-clause-answers
-returns-in-Rename-clause-answers g c = answers_names (seen c.args.self.now) (seen c.move_name.new.self) c.args.hand.now.pid c.args.caller _ _ _ c.in-Rename.is c.move_name.ensures.answers
+returns-in-Rename-clause-answers g c = answers_names (seen c.args.self.now) (seen c.rename.new.self) c.args.hand.now.pid c.args.caller _ _ _ c.in-Rename.is c.rename.ensures.answers

@@ -6,7 +6,7 @@ use Rattle.mounted.proofs.serving.Serving.holder.Goals as goal
 
 pub returns-in-Some-clause-ready : goal.returns-in-Some-clause-ready
 returns-in-Some-clause-ready g c =
-    free_holder_is (seen c.args.self.now.tables) c.in-Some.pid c.free_holder.ensures.found c.in-Some.is c.in_ok-reserve.ensures.roles (same_roles (seen c.args.self.now.tables) (c.free_holder.ensures.roles ∙ c.in_ok-reserve.ensures.roles))
+    free_holder_is (seen c.args.self.now.tables) c.in-Some.pid c.most_descriptors-most.ensures c.free_holder.ensures.found c.in-Some.is c.in_ok-reserve.ensures.roles (same_roles (seen c.args.self.now.tables) (c.free_holder.ensures.roles ∙ c.in_ok-reserve.ensures.roles))
 
 pub returns-in-None-clause-sound : goal.returns-in-None-clause-sound
 returns-in-None-clause-sound g c =

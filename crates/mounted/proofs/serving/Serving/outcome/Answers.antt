@@ -1,3 +1,5 @@
+use Rattle.std.proofs.Common.{ap}
+use Rattle.std.specs.Prelude.{Ok}
 use Rattle.mount_requests.specs.Seen.{seen}
 use Rattle.mounted.proofs.Outcomes.{begins, closes, ends, flushes, status, syncs}
 use Rattle.mounted.proofs.serving.Serving.outcome.Goals as goal
@@ -9,7 +11,7 @@ pub returns-in-Destroy-clause-served : goal.returns-in-Destroy-clause-served
 returns-in-Destroy-clause-served g c = ends (seen c.args.self.now.tables) c.args.caller c.args.operation c.args.self.now.hand.shown c.in-Destroy.is
 
 pub returns-in-StatFs-clause-served : goal.returns-in-StatFs-clause-served
-returns-in-StatFs-clause-served g c = status (seen c.args.self.now.tables) c.args.caller c.args.operation c.args.self.now.hand.shown c.status.result c.in-StatFs.is c.status.ensures
+returns-in-StatFs-clause-served g c = status (seen c.args.self.now.tables) c.args.caller c.args.operation c.args.self.now.hand.shown c.status.result c.in-StatFs.is (c.space.result, ap Ok c.status.ensures)
 
 pub returns-in-ReleaseDir-clause-served : goal.returns-in-ReleaseDir-clause-served
 returns-in-ReleaseDir-clause-served g c = closes (seen c.args.self.now.tables) c.args.caller c.args.operation c.args.self.now.hand.shown c.in-ReleaseDir.is c.remove.ensures.each c.remove.ensures.next

@@ -1,6 +1,6 @@
 use Rattle.std.proofs.Common.{ap, ◌∙◌}
 use Rattle.model.specs.Changes.{set_name}
-use Rattle.plain_kernel.proofs.Edited.{edited, makes_directory, makes_file, makes_fixed, moves, names_file, unnames_directory, unnames_file}
+use Rattle.plain_kernel.proofs.Edited.{edited, makes_directory, makes_file, makes_fixed, moves, names_file, swaps, unnames_directory, unnames_file}
 use Rattle.plain_kernel.proofs.Setting.{if_ok}
 use Rattle.plain_kernel.proofs.plain.PlainKernel.apply.Goals as goal
 
@@ -25,3 +25,7 @@ returns-in-UnnameDirectory c = if_ok c.clear_name-in-UnnameDirectory.result c.cl
 pub returns-in_ok-clear_name-in-Move : goal.returns-in_ok-clear_name-in-Move
 returns-in_ok-clear_name-in-Move c = if_ok c.set_name-in-Move.result c.set_name-in-Move.ensures (λ h. edited _ _ _ _ _ c.in-Move.is (moves _ _ _ _ _ _ _ _ _
     (h ∙ ap (set_name c.in-Move.to c.in-Move.new_name c.in-Move.inode) c.in_ok-clear_name-in-Move.ensures)))
+
+pub returns-in_ok-set_name-in-Swap : goal.returns-in_ok-set_name-in-Swap
+returns-in_ok-set_name-in-Swap c = if_ok c.set_name-in-Swap-2.result c.set_name-in-Swap-2.ensures (λ h. edited _ _ _ _ _ c.in-Swap.is (swaps _ _ _ _ _ _ _ _ _
+    (h ∙ ap (set_name c.in-Swap.second c.in-Swap.second_name c.in-Swap.first_inode) c.in_ok-set_name-in-Swap.ensures)))

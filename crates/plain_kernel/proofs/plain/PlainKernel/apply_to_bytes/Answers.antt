@@ -1,4 +1,4 @@
-use Rattle.plain_kernel.proofs.Edited.{appends, cut_ends, cuts, edited, put_ends, puts, sets_rights, takes}
+use Rattle.plain_kernel.proofs.Edited.{appends, cut_ends, cuts, edited, put_ends, puts, sets_rights, takes, wipe_ends, wipes}
 use Rattle.plain_kernel.proofs.Setting.{if_ok}
 use Rattle.plain_kernel.proofs.plain.PlainKernel.apply_to_bytes.Goals as goal
 
@@ -19,6 +19,12 @@ returns-in-SetRights c = if_ok c.set_rights.result c.set_rights.ensures (λ h. e
 
 pub put-requires : goal.put-requires
 put-requires c = put_ends _ _ _ _ _ _ c.in-PutBytes.is c.as_slice.ensures c.requires.within
+
+pub returns-in-Wipe : goal.returns-in-Wipe
+returns-in-Wipe c = if_ok c.wipe.result c.wipe.ensures (λ h. edited _ _ _ _ _ c.in-Wipe.is (wipes _ _ _ _ _ _ h))
+
+pub wipe-requires : goal.wipe-requires
+wipe-requires c = wipe_ends _ _ _ _ c.in-Wipe.is c.requires.within
 
 pub cut-requires : goal.cut-requires
 cut-requires c = cut_ends _ _ _ _ c.in-Cut.is c.requires.within

@@ -8,4 +8,4 @@ invariant_of-result c =
 
 pub returns-in-Ok : goal.returns-in-Ok
 returns-in-Ok c =
-    started c.args.root _ (record { priorities = c.args.priorities.now; largest = c.args.largest }) _ _ _ _ c.in-Ok.ensures c.new-rights.ensures c.new.ensures c.in_ok-processes.ensures c.in_ok-made.ensures
+    started c.args.root _ (record { priorities = c.args.priorities.now; bounds = c.args.bounds }) _ _ _ _ c.in-Ok.ensures c.new-rights.ensures c.new.ensures c.in_ok-processes.ensures c.in_ok-made.ensures

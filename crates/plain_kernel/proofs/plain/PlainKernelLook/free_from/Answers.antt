@@ -1,17 +1,9 @@
-use Rattle.std.proofs.Common.{◌∙◌, sym, ap}
-use Rattle.std.specs.Option.{is_some}
-use Rattle.look.specs.Shown.{first_free}
-use Rattle.look.proofs.Laws.{free_is_first, none_behind, open_is_passed}
+use Rattle.std.proofs.Common.{arith}
+use Rattle.plain_kernel.proofs.LowestFree.{first_found, none_found}
 use Rattle.plain_kernel.proofs.plain.PlainKernelLook.free_from.Goals as goal
 
-pub loop-number-init : goal.loop-number-init
-loop-number-init c = ap (first_free c.args.self.now c.args.pid) (sym c.first.view_is)
+pub returns-then-free-open_limit-clause-value : goal.returns-then-free-open_limit-clause-value
+returns-then-free-open_limit-clause-value c = first_found c.args.self.now c.args.pid c.args.first c.lowest-free.result c.open_limit.result c.open_limit.ensures.value c.lowest-free.ensures.from c.lowest-free.ensures.free c.lowest-free.ensures.open c.if-free-open_limit.true
 
-pub loop-number-preserved : goal.loop-number-preserved
-loop-number-preserved c = c.loop-number.invariant ∙ open_is_passed c.args.self.now c.args.pid c.loop-number.number c.loop-number-test.true (ap is_some (sym c.given.ensures) ∙ c.if-is_none.ensures)
-
-pub returns-then-is_none-clause-value : goal.returns-then-is_none-clause-value
-returns-then-is_none-clause-value c = sym (c.loop-number.invariant ∙ free_is_first c.args.self.now c.args.pid c.loop-number.number c.loop-number-test.true (ap is_some (sym c.given.ensures) ∙ c.if-is_none.ensures))
-
-pub returns-clause-value : goal.returns-clause-value
-returns-clause-value c = sym (c.loop-number.invariant ∙ none_behind c.args.self.now c.args.pid c.loop-number.number c.loop-number-test.false)
+pub returns-else-free-open_limit-clause-value : goal.returns-else-free-open_limit-clause-value
+returns-else-free-open_limit-clause-value c = none_found c.args.self.now c.args.pid c.args.first c.lowest-free.result c.open_limit.result c.open_limit.ensures.value c.lowest-free.ensures.open (omega (arith, c.if-free-open_limit.false))

@@ -4,4 +4,4 @@ use Rattle.replay.proofs.added.Added.of.Given as goal
 
 abbrev pub invariant-loop-priority : goal.invariant-loop-priority
 invariant-loop-priority l =
-    (setup_in l.added ≡ record { priorities = take l.priority-index l.beginning.priorities; largest = l.beginning.largest }) × (entries_in l.added ≡ [])
+    (setup_in l.added ≡ record { priorities = take l.priority-index l.beginning.priorities; bounds = l.beginning.bounds }) × (entries_in l.added ≡ [])

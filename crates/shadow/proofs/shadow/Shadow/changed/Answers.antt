@@ -2,8 +2,8 @@ use Rattle.std.proofs.Common.{ℕ, Contains, ◌↔◌, sym, ap, subst, ◌∙�
 use Rattle.model.specs.State.{Kernel}
 use Rattle.freeing_laws.specs.Sweep.{AllFit}
 use Rattle.shadow.specs.Agrees.{blocks_written}
-use Rattle.shadow.specs.Log.{effects_in}
-use Rattle.shadow.specs.Patches.{net_at, numbers_in}
+use Rattle.notes.specs.Log.{effects_in}
+use Rattle.notes.specs.Patches.{net_at, numbers_in}
 use Rattle.shadow.specs.declared.shadow.Shadow.TheInside.{Inside}
 use Rattle.shadow.proofs.shadow.Shadow.changed.Goals as goal
 

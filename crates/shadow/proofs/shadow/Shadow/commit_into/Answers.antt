@@ -1,3 +1,8 @@
+use Rattle.std.proofs.Common.{◌≢◌, ℕ, [], None, subst, sym, ◌∙◌}
+use Rattle.std.proofs.lemmas.List.{with_items_is}
+use Rattle.model.specs.FiniteMap.{get}
+use Rattle.notes.specs.Patches.{kept_at, slots_in}
+use Rattle.shadow.specs.Stored.{numbered}
 use Rattle.shadow.proofs.committing.AllSteps.{can_commit, has_all, has_inodes, has_kept, has_state}
 use Rattle.shadow.proofs.committing.AllSteps.{holds_first, holds_second, is_sound}
 use Rattle.shadow.proofs.committing.Readiness.{ready, slots_alive}
@@ -27,11 +32,13 @@ lay_openings-requires c =
       places = c.lay_inodes_with_rights.ensures.places;
     })).coming
 
-pub lay_slots-requires : goal.lay_slots-requires
-lay_slots-requires c =
-    slots_alive
+pub lay_slots-requires-clause-living : goal.lay_slots-requires-clause-living
+lay_slots-requires-clause-living c =
+    subst (λ es. (pid : ℕ) → slots_in (kept_at es pid) ≢ [] → get (numbered c.stable.inside.processes) pid ≢ None)
+    (sym (c.as_mut_slice.ensures.value ∙ c.into_parts-each.ensures.each))
+    (slots_alive
     (can_commit c.stable.invariant c.stable.view_is c.self.invariant c.self.view_is
-    c.patches.view_is c.requires.fits c.requires.covers)
+    c.patches.view_is c.requires.fits c.requires.covers))
 
 pub close_former-requires : goal.close_former-requires
 close_former-requires c = (
@@ -44,7 +51,7 @@ close_former-requires c = (
         rights = c.lay_inodes_with_rights.ensures.rights;
         places = c.lay_inodes_with_rights.ensures.places;
       })
-      c.lay_openings.ensures c.lay_slots.ensures).holds,
+      c.lay_openings.ensures (c.as_mut_slice.ensures.value ∙ c.into_parts-each.ensures.each) c.lay_slots.ensures.laid).holds,
 )
 
 pub close_new-requires : goal.close_new-requires
@@ -58,7 +65,7 @@ close_new-requires c = (
         rights = c.lay_inodes_with_rights.ensures.rights;
         places = c.lay_inodes_with_rights.ensures.places;
       })
-      c.lay_openings.ensures c.lay_slots.ensures c.close_former.ensures,
+      c.lay_openings.ensures (c.as_mut_slice.ensures.value ∙ c.into_parts-each.ensures.each) c.lay_slots.ensures.laid (c.as_slice.ensures.value ∙ with_items_is c.into_parts-each.result.0 c.lay_slots.new.each (c.lay_slots.auto.each ∙ c.as_mut_slice.ensures.len)) c.close_former.ensures,
 )
 
 pub free_all-requires : goal.free_all-requires
@@ -72,7 +79,7 @@ free_all-requires c = (
         rights = c.lay_inodes_with_rights.ensures.rights;
         places = c.lay_inodes_with_rights.ensures.places;
       })
-      c.lay_openings.ensures c.lay_slots.ensures c.close_former.ensures c.close_new.ensures,
+      c.lay_openings.ensures (c.as_mut_slice.ensures.value ∙ c.into_parts-each.ensures.each) c.lay_slots.ensures.laid (c.as_slice.ensures.value ∙ with_items_is c.into_parts-each.result.0 c.lay_slots.new.each (c.lay_slots.auto.each ∙ c.as_mut_slice.ensures.len)) c.close_former.ensures c.close_new.ensures,
 )
 
 pub invariant_of-stable : goal.invariant_of-stable
@@ -85,8 +92,8 @@ invariant_of-stable c =
       rights = c.lay_inodes_with_rights.ensures.rights;
       places = c.lay_inodes_with_rights.ensures.places;
     })
-    c.lay_openings.ensures c.lay_slots.ensures
-    c.close_former.ensures c.close_new.ensures c.free_all.ensures
+    c.lay_openings.ensures (c.as_mut_slice.ensures.value ∙ c.into_parts-each.ensures.each) c.lay_slots.ensures.laid
+    (c.as_slice.ensures.value ∙ with_items_is c.into_parts-each.result.0 c.lay_slots.new.each (c.lay_slots.auto.each ∙ c.as_mut_slice.ensures.len)) c.close_former.ensures c.close_new.ensures c.free_all.ensures
 
 pub returns-clause-state : goal.returns-clause-state
 returns-clause-state c =
@@ -98,8 +105,8 @@ returns-clause-state c =
       rights = c.lay_inodes_with_rights.ensures.rights;
       places = c.lay_inodes_with_rights.ensures.places;
     })
-    c.lay_openings.ensures c.lay_slots.ensures
-    c.close_former.ensures c.close_new.ensures c.free_all.ensures
+    c.lay_openings.ensures (c.as_mut_slice.ensures.value ∙ c.into_parts-each.ensures.each) c.lay_slots.ensures.laid
+    (c.as_slice.ensures.value ∙ with_items_is c.into_parts-each.result.0 c.lay_slots.new.each (c.lay_slots.auto.each ∙ c.as_mut_slice.ensures.len)) c.close_former.ensures c.close_new.ensures c.free_all.ensures
     c.stable.view_is
 
 pub returns-clause-kept : goal.returns-clause-kept
@@ -112,6 +119,6 @@ returns-clause-kept c =
       rights = c.lay_inodes_with_rights.ensures.rights;
       places = c.lay_inodes_with_rights.ensures.places;
     })
-    c.lay_openings.ensures c.lay_slots.ensures
-    c.close_former.ensures c.close_new.ensures c.free_all.ensures
+    c.lay_openings.ensures (c.as_mut_slice.ensures.value ∙ c.into_parts-each.ensures.each) c.lay_slots.ensures.laid
+    (c.as_slice.ensures.value ∙ with_items_is c.into_parts-each.result.0 c.lay_slots.new.each (c.lay_slots.auto.each ∙ c.as_mut_slice.ensures.len)) c.close_former.ensures c.close_new.ensures c.free_all.ensures
     c.stable.view_is

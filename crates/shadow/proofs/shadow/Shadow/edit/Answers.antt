@@ -4,8 +4,8 @@ use Rattle.model.specs.Changes.{Edit}
 use Rattle.freeing_laws.specs.Counts.{listed}
 use Rattle.shadow.specs.Agrees.{Agrees}
 use Rattle.shadow.specs.Claims.{AreUnused, Covers, KeepsMore, claimed_by, kinds_in}
-use Rattle.shadow.specs.Log.{effect, effects_in}
-use Rattle.shadow.specs.Steps.{AreApart, TakesAll, parents_in}
+use Rattle.notes.specs.Log.{effect, effects_in}
+use Rattle.notes.specs.Steps.{AreApart, TakesAll, parents_in}
 use Rattle.shadow.proofs.noting.AgreementAfterCall.{agrees_more, agrees_same, can_give, given_back, unused_claims}
 use Rattle.shadow.proofs.shadow.Shadow.edit.Goals as goal
 
@@ -24,9 +24,9 @@ invariant_of-self c =
 pub release_claims-requires : goal.release_claims-requires
 release_claims-requires c = (
   flat_map kinds_in c.args.edits.items,
-  can_give c.args.stable.now c.claim.new.self c.args.edits.items c.in_ok-chosen.chosen c.as_slice-in-Err.result.now (listed c.parent_of-parent.result)
+  can_give c.args.stable.now c.claim.new.self c.args.edits.items c.in_ok-chosen.chosen c.as_slice-in-Err.result.now (listed c.parents_of-parents.result.0 ++ listed c.parents_of-parents.result.1)
       (subst (λ es. KeepsMore c.args.stable.now c.claim.new.self (λ q. claimed_by q (effect c.in_ok-chosen.chosen es))) c.as_slice-2.ensures.value c.in_ok-chosen.ensures.kept)
-      c.as_slice-in-Err.ensures (c.parent_of-parent.ensures ∙ ap (flat_map parents_in) c.as_slice.ensures.value),
+      c.as_slice-in-Err.ensures (c.parents_of-parents.ensures ∙ ap (flat_map parents_in) c.as_slice.ensures.value),
 )
 
 pub invariant_of-self-in-Err-1 : goal.invariant_of-self-in-Err-1
@@ -34,6 +34,6 @@ invariant_of-self-in-Err-1 c = agrees_same (effects_in c.self.inside.log) c.self
 
 pub returns-in-Err-clause-same : goal.returns-in-Err-clause-same
 returns-in-Err-clause-same c =
-    given_back c.args.stable.now c.claim.new.self c.release_claims.new.self c.args.edits.items c.in_ok-chosen.chosen c.as_slice-in-Err.result.now (listed c.parent_of-parent.result)
+    given_back c.args.stable.now c.claim.new.self c.release_claims.new.self c.args.edits.items c.in_ok-chosen.chosen c.as_slice-in-Err.result.now (listed c.parents_of-parents.result.0 ++ listed c.parents_of-parents.result.1)
     (subst (λ es. KeepsMore c.args.stable.now c.claim.new.self (λ q. claimed_by q (effect c.in_ok-chosen.chosen es))) c.as_slice-2.ensures.value c.in_ok-chosen.ensures.kept)
-    c.as_slice-in-Err.ensures (c.parent_of-parent.ensures ∙ ap (flat_map parents_in) c.as_slice.ensures.value) c.release_claims.ensures.kept
+    c.as_slice-in-Err.ensures (c.parents_of-parents.ensures ∙ ap (flat_map parents_in) c.as_slice.ensures.value) c.release_claims.ensures.kept

@@ -11,7 +11,7 @@ shows ps qs given pid shown same = ap (get (numbered ps)) same ∙ ap (λ (ps : 
 
 pub returns-then-number-len : goal.returns-then-number-len
 returns-then-number-len c =
-    let ps : Processes = record { list = c.self.inside.list.items; largest = c.self.inside.largest } in
+    let ps : Processes = record { list = c.self.inside.list.items; bounds = c.self.inside.bounds } in
     let some : 0 < c.pid.inside.0 = c.if-number-gt0.true in
     let test : c.pid.inside.0 ≤ c.len.result = c.if-number-len.true in
     let count : c.len.result ≡ length c.self.inside.list.items = c.len.ensures ∙ c.self.inside.list.ok.0 in
@@ -22,7 +22,7 @@ returns-then-number-len c =
 
 pub returns-else-number-gt0 : goal.returns-else-number-gt0
 returns-else-number-gt0 c =
-    let ps : Processes = record { list = c.self.inside.list.items; largest = c.self.inside.largest } in
+    let ps : Processes = record { list = c.self.inside.list.items; bounds = c.self.inside.bounds } in
     elim c.else-number-gt0.branch [
       | else-number-gt0-via-then-number-gt0+else-number-len w ↦
           (let count : w.len.result ≡ length ps.list = w.len.ensures ∙ c.self.inside.list.ok.0 in

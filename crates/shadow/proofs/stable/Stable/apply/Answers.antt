@@ -1,9 +1,9 @@
-use Rattle.std.proofs.Common.{◌≤◌, ap, sym, subst, ◌∙◌}
+use Rattle.std.proofs.Common.{◌≤◌, ◌++◌, ap, sym, subst, ◌∙◌}
 use Rattle.std.specs.List.{flat_map}
 use Rattle.freeing_laws.specs.Counts.{listed}
 use Rattle.shadow.specs.Claims.{KeepsMore, claimed_by, claimed_in, kinds_in, with_kinds}
-use Rattle.shadow.specs.Log.{effect}
-use Rattle.shadow.specs.Steps.{parents_in}
+use Rattle.notes.specs.Log.{effect}
+use Rattle.notes.specs.Steps.{parents_in}
 use Rattle.shadow.proofs.noting.AgreementAfterCall.{can_give}
 use Rattle.shadow.proofs.stable.Stable.apply.Goals as goal
 
@@ -13,12 +13,12 @@ release_claims-requires c = (
   flat_map kinds_in c.args.edits.items,
   λ claim. subst (λ n. claimed_in claim
       (with_kinds c.as_slice-in-Err.result.now (flat_map kinds_in c.args.edits.items))
-      (listed c.parent_of-parent.result) ≤ n) (sym (c.in-Err.ensures.same claim))
+      (listed c.parents_of-parents.result.0 ++ listed c.parents_of-parents.result.1) ≤ n) (sym (c.in-Err.ensures.same claim))
       (can_give c.args.self.now c.claim.new.self c.args.edits.items c.in_ok-chosen.chosen
-      c.as_slice-in-Err.result.now (listed c.parent_of-parent.result)
+      c.as_slice-in-Err.result.now (listed c.parents_of-parents.result.0 ++ listed c.parents_of-parents.result.1)
       (subst (λ es. KeepsMore c.args.self.now c.claim.new.self
       (λ q. claimed_by q (effect c.in_ok-chosen.chosen es))) c.as_slice-2.ensures.value
       c.in_ok-chosen.ensures.kept)
       c.as_slice-in-Err.ensures
-      (c.parent_of-parent.ensures ∙ ap (flat_map parents_in) c.as_slice.ensures.value) claim),
+      (c.parents_of-parents.ensures ∙ ap (flat_map parents_in) c.as_slice.ensures.value) claim),
 )

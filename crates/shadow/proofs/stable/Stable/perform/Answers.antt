@@ -2,10 +2,9 @@ use Rattle.std.proofs.Common.{◌≡◌, ◌-◌, ◌++◌, List, [], ◌∷◌,
 use Rattle.std.specs.Prelude.{take}
 use Rattle.model.specs.Changes.{Edit, all_applied, tidy}
 use Rattle.shadow.specs.Claims.{KeepsMore, claimed_by}
-use Rattle.shadow.specs.Log.{effect}
+use Rattle.notes.specs.Log.{effect}
 use Rattle.shadow.proofs.claims.CallClaims.{CanPerform}
-use Rattle.shadow.proofs.shared.Outcomes.{ok_so}
-use Rattle.shadow.proofs.shared.EditPairs.{two_edits}
+use Rattle.notes.proofs.Laws.{ok_so, two_edits}
 use Rattle.shadow.proofs.stable.Stable.perform.Goals as goal
 
 -- there are two edits

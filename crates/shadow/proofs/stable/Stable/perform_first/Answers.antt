@@ -3,8 +3,8 @@ use Rattle.std.proofs.lemmas.List.{get_or_read}
 use Rattle.model.specs.State.{Kernel}
 use Rattle.model.specs.Changes.{Edit, Put_bytes, applied, news, tidy}
 use Rattle.call_laws.specs.Fits.{Fits}
-use Rattle.shadow.specs.Steps.{IsFirst, new_in}
-use Rattle.shadow.proofs.shared.Outcomes.{ok_so}
+use Rattle.notes.specs.Steps.{IsFirst, new_in}
+use Rattle.notes.proofs.Laws.{ok_so}
 use Rattle.shadow.proofs.edits.UnusedNumbers.{none_goes, same_bytes_put, same_pipe}
 use Rattle.shadow.proofs.stable.Stable.perform_first.Goals as goal
 

@@ -3,10 +3,10 @@ use Rattle.std.proofs.lemmas.List.{get_or_read}
 use Rattle.model.specs.State.{Kernel}
 use Rattle.model.specs.Changes.{Edit, applied, news, tidy}
 use Rattle.call_laws.specs.Fits.{Fits}
-use Rattle.shadow.specs.Steps.{IsNaming, new_in}
+use Rattle.notes.specs.Steps.{IsNaming, new_in}
 use Rattle.shadow.proofs.edits.UnusedNumbers.{same_directory, same_file, same_fixed, same_linking}
 use Rattle.shadow.proofs.edits.UnusedNumbers.{same_moving, same_unnaming}
-use Rattle.shadow.specs.declared.change.Made.TheVariants.{Directory as A_directory, File as A_file}
+use Rattle.notes.specs.declared.change.Made.TheVariants.{Directory as A_directory, File as A_file}
 use Rattle.shadow.proofs.stable.Stable.perform_naming.Goals as goal
 
 pub returns-in-MakeDirectory-clause-state : goal.returns-in-MakeDirectory-clause-state

@@ -1,9 +1,18 @@
 use Rattle.std.proofs.Common.{ℕ, List, [], refl, sym, subst, ap, ◌∙◌}
 use Rattle.model.specs.State.{Kernel}
-use Rattle.model.specs.Changes.{Append, Cut, Edit, Set_rights, Take, applied, tidy}
+use Rattle.model.specs.Changes.{Append, Cut, Edit, Set_rights, Take, Wipe, applied, tidy}
 use Rattle.call_laws.specs.Fits.{Fits}
-use Rattle.shadow.proofs.edits.UnusedNumbers.{none_goes, same_append, same_cut, same_set_rights, same_take}
+use Rattle.shadow.proofs.edits.UnusedNumbers.{none_goes, same_append, same_cut, same_set_rights, same_take, same_wipe}
 use Rattle.shadow.proofs.stable.Stable.perform_without_memory.Goals as goal
+
+pub returns-in-Wipe-clause-state : goal.returns-in-Wipe-clause-state
+returns-in-Wipe-clause-state c =
+    let chosen : List ℕ = c.args.chosen.now in let k : Kernel = c.args.self.now.state in
+    c.wipe.ensures.state
+    ∙ same_wipe chosen k c.in-Wipe.file c.in-Wipe.offset c.in-Wipe.count
+    ∙ none_goes chosen k (Wipe c.in-Wipe.file c.in-Wipe.offset c.in-Wipe.count) c.state_is_tidied.ensures
+    (subst (Fits chosen k) c.in-Wipe.is c.requires.fits) refl
+    ∙ ap (λ (e : Edit). tidy (applied chosen e k)) (sym c.in-Wipe.is)
 
 pub returns-in-Cut-clause-state : goal.returns-in-Cut-clause-state
 returns-in-Cut-clause-state c =

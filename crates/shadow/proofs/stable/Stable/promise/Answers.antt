@@ -1,10 +1,11 @@
 use Rattle.std.proofs.Common.{Result, Ok, Err, sym, subst}
 use Rattle.std.specs.Result.{OnOk, OnErr}
 use Rattle.store.specs.Places.{altered, more_room, with_listing}
-use Rattle.shadow.specs.Claims.{KeepsMore, room_in}
+use Rattle.shadow.specs.Claims.{KeepsMore, Stays, room_in}
 use Rattle.shadow.specs.Stored.{Sound, committed_of}
 use Rattle.shadow.proofs.claims.ClaimCounts.{gives_one}
 use Rattle.shadow.proofs.claims.Reservations.{promised_sound}
+use Rattle.shadow.proofs.claims.Rooms.{stays_promised}
 use Rattle.shadow.proofs.shared.CommittedLemmas.{listed_in, more_of}
 use Rattle.shadow.proofs.stable.Stable.promise.Goals as goal
 
@@ -27,3 +28,9 @@ returns-clause-kept c =
     on_ok_by c.promise.result (λ e. subst (λ t. KeepsMore c.args.self.now (committed_of ps t) (room_in c.args.dir)) (sym e)
     (more_of ps s c.args.self.now c.self.view_is (altered (with_listing more_room) s c.args.dir) (room_in c.args.dir)
     (gives_one s c.args.dir (listed_in ps s c.args.self.now c.self.view_is c.args.dir c.requires)))) c.promise.ensures.ok
+
+pub returns-clause-stays : goal.returns-clause-stays
+returns-clause-stays c =
+    let ps = c.self.inside.processes in let s = c.self.inside.store in
+    on_ok_by c.promise.result (λ e. subst (λ t. Stays c.args.self.now (committed_of ps t)) (sym e)
+    (stays_promised ps s c.args.self.now c.self.view_is c.args.dir)) c.promise.ensures.ok

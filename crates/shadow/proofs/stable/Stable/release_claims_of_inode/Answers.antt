@@ -1,5 +1,5 @@
 use Rattle.std.proofs.Common.{◌≡◌, Some, arith}
-use Rattle.shadow.specs.Patches.{net_of}
+use Rattle.notes.specs.Patches.{net_of}
 use Rattle.shadow.proofs.claims.ReleasedClaims.{made_given, more_room_left, number_left}
 use Rattle.shadow.proofs.stable.Stable.release_claims_of_inode.Goals as goal
 

@@ -1,6 +1,6 @@
 use Rattle.std.proofs.Common.{Some, subst}
 use Rattle.shadow.specs.Claims.{inode_claim}
-use Rattle.shadow.specs.Patches.{net_of}
+use Rattle.notes.specs.Patches.{net_of}
 use Rattle.shadow.proofs.claims.ReleasedClaims.{GivesUp, gives_up_next, inode_at, inode_away, inode_here, no_inode_at}
 use Rattle.shadow.proofs.stable.Stable.release_claims_of_inodes.Goals as goal
 

@@ -1,5 +1,5 @@
 use Rattle.std.proofs.Common.{false, subst, ap}
-use Rattle.shadow.specs.Patches.{is_new}
+use Rattle.notes.specs.Patches.{is_new}
 use Rattle.shadow.proofs.claims.ReleasedClaims.{GivesUp, opened_at}
 use Rattle.shadow.proofs.claims.ReleasedDescriptions.{gives_new, gives_none, number_kept}
 use Rattle.shadow.proofs.stable.Stable.release_claims_of_openings.Goals as goal

@@ -1,6 +1,6 @@
 use Rattle.std.proofs.Common.{false}
 use Rattle.shadow.proofs.claims.NewNumbers.{err_added, err_more, more_added, none_added}
-use Rattle.shadow.proofs.noting.InodeNotes.{on_err}
+use Rattle.notes.proofs.Laws.{on_err}
 use Rattle.shadow.proofs.stable.Stable.reserve_three.Goals as goal
 
 pub returns-in_err-reserve-clause-err : goal.returns-in_err-reserve-clause-err

@@ -11,7 +11,7 @@ use Rattle.shadow.specs.Stored.{Sound, committed_of, state_of}
 use Rattle.shadow.proofs.edits.FileBytes.{either_way, file_is, file_there, swapped, unswapped_sound, unswapped_state, written_sound, written_state}
 use Rattle.shadow.proofs.shared.SoundnessLemmas.{same_of, state_is}
 use Rattle.shadow.proofs.freeing.RemainingPlaces.{file_keeps}
-use Rattle.shadow.proofs.shared.Outcomes.{err_so, ok_so}
+use Rattle.notes.proofs.Laws.{err_so, ok_so}
 use Rattle.shadow.proofs.stable.Stable.write.Goals as goal
 
 pub write_file-requires-clause-file : goal.write_file-requires-clause-file

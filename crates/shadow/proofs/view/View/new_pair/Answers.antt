@@ -6,10 +6,10 @@ use Rattle.model.specs.Effects.{Effect, all_done}
 use Rattle.freeing_laws.specs.Pipes.{ArePair}
 use Rattle.freeing_laws.specs.Sweep.{AllFit}
 use Rattle.shadow.specs.Committed.{Committed}
-use Rattle.shadow.specs.Log.{effects_in}
+use Rattle.notes.specs.Log.{effects_in}
 use Rattle.shadow.specs.Looks.{changes_of}
-use Rattle.shadow.specs.Patches.{kept_at, net_of, new_ends}
-use Rattle.shadow.specs.declared.change.InodeChange.{InodeChange}
+use Rattle.notes.specs.Patches.{kept_at, net_of, new_ends}
+use Rattle.notes.specs.declared.change.InodeChange.{InodeChange}
 use Rattle.shadow.proofs.viewing.PipePairs.{new_pair_told}
 use Rattle.shadow.proofs.view.View.new_pair.Goals as goal
 

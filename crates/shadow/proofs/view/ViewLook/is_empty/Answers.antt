@@ -2,8 +2,8 @@ use Rattle.std.proofs.Common.{◌≡◌, sym, ap, ◌∙◌, option_copied}
 use Rattle.model.specs.FiniteMap.{get, keys}
 use Rattle.model.specs.State.{names_of, names_of_inode}
 use Rattle.model.specs.Paths.{is_empty}
-use Rattle.shadow.specs.Patches.{net_of, patched}
-use Rattle.shadow.proofs.viewing.LookLemmas.{no_keys}
+use Rattle.notes.specs.Patches.{net_of, patched}
+use Rattle.notes.proofs.Laws.{no_keys}
 use Rattle.shadow.proofs.view.ViewLook.is_empty.Goals as goal
 
 pub returns : goal.returns

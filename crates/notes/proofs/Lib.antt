@@ -1,0 +1,22 @@
+mod NameNotes
+mod InodeLemmas
+mod SlotLemmas
+mod DescriptionLemmas
+mod InodeNotes
+mod NameEdits
+mod FileEdits
+mod PipeEdits
+mod OffsetEdits
+mod RightsEdits
+mod EditCases
+mod EditPairs
+mod DistinctProcesses
+mod SlotRooms
+mod SlotPlaces
+mod BlockNumbers
+mod FileNotes
+mod NamesOver
+mod UnusedNumbers
+mod Outcomes
+mod SortedKeys
+pub mod Laws

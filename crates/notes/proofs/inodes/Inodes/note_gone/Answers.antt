@@ -1,0 +1,29 @@
+use Rattle.std.proofs.Common.{◌≡◌, sym, subst, Some}
+use Rattle.notes.specs.Patches.{kept_at, net_of}
+use Rattle.notes.specs.Notes.{At, IsGone, SameInodes}
+use Rattle.notes.proofs.InodeLemmas.{put_back, same_back, same_change, some_kept}
+use Rattle.notes.proofs.Outcomes.{err_so, if_so}
+use Rattle.notes.proofs.inodes.Inodes.note_gone.Goals as goal
+
+pub returns-clause-ok : goal.returns-clause-ok
+returns-clause-ok c =
+    let es = c.self.inside.each.entries in
+    let was : kept_at es c.args.dir ≡ Some c.in-Some.change.now = sym c.in-Some.ensures.value in
+    if_so c.note_gone.result (λ former. IsGone c.args.name former (net_of (Some c.in-Some.change.now)) (net_of (Some c.note_gone.new.self)))
+    (λ former. At c.args.dir (IsGone c.args.name former) c.args.self.now (c.get_mut.follows.lender c.note_gone.new.self).entries)
+    (λ former h. subst (λ es. At c.args.dir (IsGone c.args.name former) es (c.get_mut.follows.lender c.note_gone.new.self).entries) c.self.view_is
+    (put_back c.args.dir c.note_gone.new.self es (c.get_mut.follows.lender c.note_gone.new.self).entries
+    ((c.get_mut.follows.holds c.note_gone.new.self).3 (some_kept (kept_at es c.args.dir) c.in-Some.change.now was)).0
+    c.in-Some.change.now (IsGone c.args.name former) was h))
+    c.note_gone.ensures.ok
+
+pub returns-clause-err : goal.returns-clause-err
+returns-clause-err c =
+    let es = c.self.inside.each.entries in
+    let was : kept_at es c.args.dir ≡ Some c.in-Some.change.now = sym c.in-Some.ensures.value in
+    err_so c.note_gone.result
+    (λ h. subst (λ es. SameInodes es (c.get_mut.follows.lender c.note_gone.new.self).entries) c.self.view_is
+    (same_back c.args.dir c.note_gone.new.self es (c.get_mut.follows.lender c.note_gone.new.self).entries
+    ((c.get_mut.follows.holds c.note_gone.new.self).3 (some_kept (kept_at es c.args.dir) c.in-Some.change.now was)).0
+    (Some c.in-Some.change.now) was (same_change c.in-Some.change.now c.note_gone.new.self h)))
+    c.note_gone.ensures.err

@@ -1,0 +1,28 @@
+use Rattle.std.proofs.Common.{◌≡◌, sym, subst, Some}
+use Rattle.notes.specs.Patches.{kept_at}
+use Rattle.notes.specs.Notes.{At, IsWiped, SameInodes}
+use Rattle.notes.proofs.InodeLemmas.{put_back, same_back, same_change, some_kept}
+use Rattle.notes.proofs.Outcomes.{err_so, ok_so}
+use Rattle.notes.proofs.inodes.Inodes.wipe.Goals as goal
+
+pub returns-clause-ok : goal.returns-clause-ok
+returns-clause-ok c =
+    let es = c.self.inside.each.entries in
+    let was : kept_at es c.args.file ≡ Some c.in-Some.change.now = sym c.in-Some.ensures.value in
+    ok_so c.wipe.result
+    (λ h. subst (λ es. At c.args.file (IsWiped c.args.offset c.args.count) es (c.get_mut.follows.lender c.wipe.new.self).entries) c.self.view_is
+    (put_back c.args.file c.wipe.new.self es (c.get_mut.follows.lender c.wipe.new.self).entries
+    ((c.get_mut.follows.holds c.wipe.new.self).3 (some_kept (kept_at es c.args.file) c.in-Some.change.now was)).0
+    c.in-Some.change.now (IsWiped c.args.offset c.args.count) was h))
+    c.wipe.ensures.ok
+
+pub returns-clause-err : goal.returns-clause-err
+returns-clause-err c =
+    let es = c.self.inside.each.entries in
+    let was : kept_at es c.args.file ≡ Some c.in-Some.change.now = sym c.in-Some.ensures.value in
+    err_so c.wipe.result
+    (λ h. subst (λ es. SameInodes es (c.get_mut.follows.lender c.wipe.new.self).entries) c.self.view_is
+    (same_back c.args.file c.wipe.new.self es (c.get_mut.follows.lender c.wipe.new.self).entries
+    ((c.get_mut.follows.holds c.wipe.new.self).3 (some_kept (kept_at es c.args.file) c.in-Some.change.now was)).0
+    (Some c.in-Some.change.now) was (same_change c.in-Some.change.now c.wipe.new.self h)))
+    c.wipe.ensures.err

@@ -1,0 +1,22 @@
+use Rattle.std.proofs.Common.{[], refl, subst}
+use Rattle.model.specs.Changes.{Take}
+use Rattle.notes.specs.Patches.{Patches}
+use Rattle.notes.specs.Steps.{TakesIn}
+use Rattle.notes.proofs.InodeNotes.{only_inodes, same_then_takes}
+use Rattle.notes.proofs.Outcomes.{ok_so}
+use Rattle.notes.proofs.PipeEdits.{take_takes}
+use Rattle.notes.proofs.patches.Patches.take.Goals as goal
+
+pub returns-clause-ok : goal.returns-clause-ok
+returns-clause-ok c =
+    let was = c.self.inside in
+    let old : Patches = record { inodes = was.inodes; rights = was.rights; openings = was.openings; slots = was.slots; unnamed_inodes = was.unnamed_inodes.items } in
+    let mid : Patches = record old { inodes = c.make_place.new.self } in
+    let new : Patches = record old { inodes = c.take.new.self } in
+    let edit = Take c.args.pipe c.args.count in
+    ok_so c.take.result
+    (λ noted. subst (λ (p : Patches). TakesIn [] edit p new) c.self.view_is
+    (same_then_takes [] edit old mid new
+    (only_inodes old mid c.make_place.ensures.same refl refl refl refl)
+    (take_takes c.args.pipe c.args.count mid new noted refl refl refl refl)))
+    c.take.ensures.ok

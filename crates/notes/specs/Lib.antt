@@ -1,0 +1,5 @@
+pub mod Patches
+pub mod Steps
+pub mod Notes
+pub mod Openings
+pub mod Log

@@ -1,5 +1,0 @@
-use Rattle.shadow.proofs.noting.SlotLemmas.{NoneBefore}
-use Rattle.shadow.proofs.slots.find.Given as goal
-
-abbrev pub invariant-loop-of : goal.invariant-loop-of
-invariant-loop-of l = NoneBefore l.each l.pid l.of-index

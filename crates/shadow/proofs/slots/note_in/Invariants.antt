@@ -1,6 +1,0 @@
-use Rattle.std.proofs.Common.{◌≡◌}
-use Rattle.shadow.proofs.noting.SlotLemmas.{NoneBefore}
-use Rattle.shadow.proofs.slots.note_in.Given as goal
-
-abbrev pub invariant-loop-i : goal.invariant-loop-i
-invariant-loop-i l = record { same : l.each ≡ l.fn.each; none : NoneBefore l.each l.pid l.i }
