@@ -1,0 +1,5 @@
+mod Faulting
+mod Telling
+mod Recovering
+mod Holding
+mod Going

@@ -1,0 +1,4 @@
+mod Entries
+mod Places
+mod Keeping
+mod Steps

@@ -1,0 +1,4 @@
+mod Coming
+mod Going
+pub mod Laws
+mod Names

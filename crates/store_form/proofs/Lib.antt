@@ -1,0 +1,6 @@
+mod Apart
+mod Forms
+mod Growing
+pub mod Laws
+mod Reading
+mod Running

@@ -1,0 +1,4 @@
+pub mod Laws
+pub mod ReadingSetups
+pub mod Setups
+pub mod Stores
