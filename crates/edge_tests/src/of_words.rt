@@ -5,7 +5,7 @@ use std::alloc::Global;
 use std::test::Fail;
 use words::{CommandLineFault, Task, read_words};
 
-// Whether a line's words give this job, of a script or of a stream, or a fault with this status and
+// Whether a line's words give this job, of a script, of a stream or of a store, or a fault with this status and
 // text. A text of clap's need only begin with it.
 fn is_as_expected(alloc: Global, heap: Heap, line: &str, status: u8, expected: &str) -> bool {
     let words: Vec<&str> = match line.split(' ').collect(alloc) {
@@ -15,6 +15,7 @@ fn is_as_expected(alloc: Global, heap: Heap, line: &str, status: u8, expected: &
     match read_words(alloc, heap, words.as_slice()) {
         Ok(Task::Script(job)) => status == 0 && has_debug_text(alloc, &job, expected),
         Ok(Task::Stream(job)) => status == 0 && has_debug_text(alloc, &job, expected),
+        Ok(Task::Store(job)) => status == 0 && has_debug_text(alloc, &job, expected),
         Err(CommandLineFault::Usage(fault)) => status == 2 && text_begins(alloc, &fault, expected),
         Err(fault) => status == fault.status() && has_text(alloc, &fault, expected),
     }
@@ -22,7 +23,7 @@ fn is_as_expected(alloc: Global, heap: Heap, line: &str, status: u8, expected: &
 
 // Command lines, each with its status and job, or how the text of its fault begins. Before each the
 // request of memory that is refused: one is made for a schedule, and one for the file.
-static LINES: [(u64, &str, u8, &str); 51] = [
+static LINES: [(u64, &str, u8, &str); 60] = [
     (
         0,
         "txsh --schedule 1,1,2,1,2 run.tx",
@@ -246,6 +247,61 @@ static LINES: [(u64, &str, u8, &str); 51] = [
         "txsh --file-limit 5 run.tx",
         2,
         "exactly one of --schedule, --threads and --stream",
+    ),
+    // A store, of which the name takes memory.
+    (
+        0,
+        "txsh --stream --store kept",
+        0,
+        "StoreJob { stream: StreamJob { limit: 65536, file_limit: 1048576, descriptors: 64, path_limit: 1024, check: false }, store: \"kept\", sync: Soon }",
+    ),
+    (
+        1,
+        "txsh --stream --store kept",
+        3,
+        "no memory",
+    ),
+    (
+        0,
+        "txsh --store=kept --sync always --stream",
+        0,
+        "StoreJob { stream: StreamJob { limit: 65536, file_limit: 1048576, descriptors: 64, path_limit: 1024, check: false }, store: \"kept\", sync: Always }",
+    ),
+    (
+        0,
+        "txsh --stream --store kept --sync=soon",
+        0,
+        "StoreJob { stream: StreamJob { limit: 65536, file_limit: 1048576, descriptors: 64, path_limit: 1024, check: false }, store: \"kept\", sync: Soon }",
+    ),
+    (
+        0,
+        "txsh --sync never --stream --store kept",
+        0,
+        "StoreJob { stream: StreamJob { limit: 65536, file_limit: 1048576, descriptors: 64, path_limit: 1024, check: false }, store: \"kept\", sync: Never }",
+    ),
+    (
+        0,
+        "txsh --stream --store kept --sync later",
+        2,
+        "--sync is always, soon or never",
+    ),
+    (
+        0,
+        "txsh --stream --sync always",
+        2,
+        "--sync goes with --store",
+    ),
+    (
+        0,
+        "txsh --stream --check --store kept",
+        2,
+        "no --check goes with --store",
+    ),
+    (
+        0,
+        "txsh --threads --store kept run.tx",
+        2,
+        "--store and --sync go with --stream",
     ),
 ];
 

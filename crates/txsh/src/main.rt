@@ -9,13 +9,18 @@ use device::Counted;
 use heap::Heap;
 use kernel::Kernel;
 use runner::{RunFault, read_words, report_command_line, report_fault, run_job, run_stream_job};
+use sqlite_disk::Wary;
 use std::alloc::Global;
 use std::fs::File;
 use std::process::ExitCode;
 use std::sync::Wait;
 use std::thread::Threads;
 use std::{env, io};
-use words::{CommandLineFault, Job, MAX_FILE_LIMIT, MAX_LIMIT, StreamJob, Task};
+use store_stream::{report_store, run_store_job};
+use words::{CommandLineFault, Job, MAX_FILE_LIMIT, MAX_LIMIT, StoreJob, StreamJob, Task};
+
+/// The exit status where the file of a store is not opened.
+const REFUSED: u8 = 6;
 
 fn main(rt: HostRuntime) -> ExitCode {
     ExitCode::from(status(&rt, &rt))
@@ -30,6 +35,7 @@ fn status<R: Threads + Wait + Sync>(rt: &HostRuntime, threads: &R) -> u8 {
     match task_in(rt, heap) {
         Ok(Task::Script(job)) => run_file(rt, threads, heap, &job),
         Ok(Task::Stream(job)) => run_input(rt, heap, job),
+        Ok(Task::Store(job)) => run_store(rt, heap, &job),
         Err(fault) => {
             let mut out = Counted::new(rt.stdout());
             let mut err = Counted::new(rt.stderr());
@@ -62,6 +68,32 @@ fn run_input(rt: &HostRuntime, heap: Heap, job: StreamJob) -> u8
     let mut out = Counted::new(rt.stdout());
     let mut err = Counted::new(rt.stderr());
     run_stream_job::<Kernel, _, _, _>(heap, job, &mut source, &mut out, &mut err)
+}
+
+/// Does the lines of standard input as they come, on the kernel of a store. A torn write may leave
+/// any bytes where it wrote.
+fn run_store(rt: &HostRuntime, heap: Heap, job: &StoreJob) -> u8
+    requires limited { job.now.stream.limit ≤ MAX_LIMIT }
+    requires files { job.now.stream.file_limit ≤ MAX_FILE_LIMIT }
+{
+    let mut source = Counted::new(rt.stdin());
+    let mut out = Counted::new(rt.stdout());
+    let mut err = Counted::new(rt.stderr());
+    match store_file::open(rt, job.store.as_str(), Wary) {
+        Ok(disk) => run_store_job::<Kernel, _, _, _, _>(
+            heap,
+            rt.alloc(),
+            disk,
+            job,
+            &mut source,
+            &mut out,
+            &mut err,
+        ),
+        Err(fault) => {
+            report_store(heap, job.store.as_str(), &fault, &mut err);
+            REFUSED
+        }
+    }
 }
 
 /// The task that the command line gives.

@@ -167,3 +167,15 @@ unknown_way = refl
 help : found_in (codes "--help" ∷ []) ≡ DisplayHelp ∷ []
 unfolding clap_on_literals
 help = refl
+
+a_store : found_in (codes "--stream" ∷ codes "--store" ∷ codes "kept" ∷ codes "--sync=always" ∷ []) ≡ []
+unfolding clap_on_literals
+a_store = refl
+
+store_named : value_in (codes "txsh" ∷ codes "--stream" ∷ codes "--store=kept" ∷ codes "--sync" ∷ codes "never" ∷ []) (codes "store") ≡ Some (codes "kept")
+unfolding clap_on_literals
+store_named = refl
+
+sync_named : value_in (codes "txsh" ∷ codes "--stream" ∷ codes "--store=kept" ∷ codes "--sync" ∷ codes "never" ∷ []) (codes "sync") ≡ Some (codes "never")
+unfolding clap_on_literals
+sync_named = refl

@@ -1,12 +1,13 @@
 -- What is said of options' values that are looked up in one way is said of those looked up in another.
 use Rattle.std.proofs.Common.{◌≡◌, List, [], Option, Result, Ok, Err, sym, ◌∙◌, subst, inl, inr, codes, IfErr, IfOk}
 use Rattle.clap.specs.Words.{Text, fault_of}
-use Rattle.words.specs.Txsh.{HasFileToo, HasLimits, HasNoFile, HasNotOneWay, IsFaultOf, IsFlag, IsLimit, IsStream, IsTask, IsTaskFault, IsWay, SameMatches, limits_in, number_in, txsh, value_in}
+use Rattle.words.specs.Txsh.{HasFileToo, HasLimits, HasNoFile, HasNoStore, HasNotOneWay, HasStoreToo, IsFaultOf, IsFlag, IsLimit, IsScript, IsStoreFault, IsStoreOf, IsStream, IsStreamFault, IsStreamOf, IsStreamTask, IsSync, IsTask, IsTaskFault, IsWay, SameMatches, limits_in, number_in, txsh, value_in}
 use Rattle.words.specs.declared.CommandLineFault.{CommandLineFault}
-use Rattle.words.specs.declared.CommandLineFault.TheVariants.{OneWay, FileMissing, FileGiven, NotUtf8, Help, Usage, NoMemory}
+use Rattle.words.specs.declared.CommandLineFault.TheVariants.{OneWay, FileMissing, FileGiven, StoreGiven, StoreMissing, CheckGiven, BadSync, NotUtf8, Help, Usage, NoMemory}
 use Rattle.words.specs.declared.StreamJob.{StreamJob}
+use Rattle.words.specs.declared.StoreJob.{StoreJob}
 use Rattle.words.specs.declared.Task.{Task}
-use Rattle.words.specs.declared.Task.TheVariants.{Script, Stream}
+use Rattle.words.specs.declared.Task.TheVariants.{Script, Stream, Store}
 use Rattle.words.specs.declared.TheConstants.{DEFAULT_DESCRIPTORS, DEFAULT_FILE_LIMIT, DEFAULT_LIMIT, DEFAULT_PATH_LIMIT, MAX_DESCRIPTORS, MAX_FILE_LIMIT, MAX_LIMIT, MAX_PATH_LIMIT}
 use Rattle.words.specs.declared.Way.{Way}
 use Rattle.words.specs.declared.Way.TheVariants.{Schedule, Threads}
@@ -40,17 +41,38 @@ module _ (f g n m : Text → Option Text) (values : SameMatches f g) (numbers : 
     check = subst (λ (t : Option Text). IsFlag t given.check) (numbers (codes "check")) h.check;
   }
 
+  same_no_store : HasNoStore f → HasNoStore g
+  same_no_store h = (sym (values (codes "store")) ∙ h.0, sym (values (codes "sync")) ∙ h.1)
+
+  same_store : (job : StoreJob) → IsStoreOf f n job → IsStoreOf g m job
+  same_store job h = record {
+    limits = same_limits job.stream h.limits;
+    unchecked = h.unchecked;
+    store = sym (values (codes "store")) ∙ h.store;
+    sync = subst (λ (t : Option Text). IsSync t job.sync) (values (codes "sync")) h.sync;
+  }
+
+  same_stream_of : (task : Task) → IsStreamOf f n task → IsStreamOf g m task
+  same_stream_of (Script job) h = absurd h
+  same_stream_of (Stream job) h = (same_limits job h.0, same_no_store h.1)
+  same_stream_of (Store job) h = same_store job h
+
+  same_stream_task : (task : Task) → IsStreamTask f n task → IsStreamTask g m task
+  same_stream_task task h = record {
+    way = same_stream h.way;
+    is = same_stream_of task h.is;
+    no_file = sym (values (codes "file")) ∙ h.no_file;
+  }
+
   same_task : (task : Task) → IsTask f n task → IsTask g m task
   same_task (Script job) h = record {
     way = same_way job.way h.way;
     limits = same_limits (limits_in job) h.limits;
     file = sym (values (codes "file")) ∙ h.file;
+    no_store = same_no_store h.no_store;
   }
-  same_task (Stream job) h = record {
-    way = same_stream h.way;
-    limits = same_limits job h.limits;
-    no_file = sym (values (codes "file")) ∙ h.no_file;
-  }
+  same_task (Stream job) h = same_stream_task (Stream job) h
+  same_task (Store job) h = same_stream_task (Store job) h
 
   same_not_one : HasNotOneWay f n → HasNotOneWay g m
   same_not_one (inl h) = inl (λ none. h.0 (values (codes "schedule") ∙ none), sym (numbers (codes "threads")) ∙ h.1)
@@ -62,11 +84,27 @@ module _ (f g n m : Text → Option Text) (values : SameMatches f g) (numbers : 
     λ set. h.2 (numbers (codes "stream") ∙ set),
   )))
 
+  same_script : IsScript f n → IsScript g m
+  same_script h = (h.0, same_way h.0 h.1)
+
   same_no_file : HasNoFile f n → HasNoFile g m
-  same_no_file h = ((h.0.0, same_way h.0.0 h.0.1), sym (values (codes "file")) ∙ h.1)
+  same_no_file h = (same_script h.0, sym (values (codes "file")) ∙ h.1)
 
   same_file_too : HasFileToo f n → HasFileToo g m
   same_file_too h = (same_stream h.0, λ none. h.1 (values (codes "file") ∙ none))
+
+  same_store_too : HasStoreToo f → HasStoreToo g
+  same_store_too (inl h) = inl (λ none. h (values (codes "store") ∙ none))
+  same_store_too (inr h) = inr (λ none. h (values (codes "sync") ∙ none))
+
+  same_missing : IsStreamFault f n StoreMissing → IsStreamFault g m StoreMissing
+  same_missing h = (sym (values (codes "store")) ∙ h.0, λ none. h.1 (values (codes "sync") ∙ none))
+
+  same_check : IsStoreFault f n CheckGiven → IsStoreFault g m CheckGiven
+  same_check h = (λ none. h.0 (values (codes "store") ∙ none), sym (numbers (codes "check")) ∙ h.1)
+
+  same_sync : IsStoreFault f n BadSync → IsStoreFault g m BadSync
+  same_sync h = (λ none. h.0 (values (codes "store") ∙ none), λ sync is. h.1 sync (subst (λ (t : Option Text). IsSync t sync) (sym (values (codes "sync"))) is))
 
 pub task_in : (words : List Text) (f n : Text → Option Text) (r : Result Task CommandLineFault) → SameMatches f (value_in words) → SameMatches n (number_in words)
     → IfOk r (IsTask f n) → IfOk r (IsTask (value_in words) (number_in words))
@@ -78,6 +116,10 @@ fault_by : (words : List Text) (f n : Text → Option Text) (why : CommandLineFa
 fault_by words f n OneWay values numbers fits h = (fits, same_not_one f (value_in words) n (number_in words) values numbers h)
 fault_by words f n FileMissing values numbers fits h = (fits, same_no_file f (value_in words) n (number_in words) values numbers h)
 fault_by words f n FileGiven values numbers fits h = (fits, same_file_too f (value_in words) n (number_in words) values numbers h)
+fault_by words f n StoreGiven values numbers fits h = (fits, (same_script f (value_in words) n (number_in words) values numbers h.0, same_store_too f (value_in words) n (number_in words) values numbers h.1))
+fault_by words f n StoreMissing values numbers fits h = (fits, (same_stream f (value_in words) n (number_in words) values numbers h.0, same_missing f (value_in words) n (number_in words) values numbers h.1))
+fault_by words f n CheckGiven values numbers fits h = (fits, (same_stream f (value_in words) n (number_in words) values numbers h.0, same_check f (value_in words) n (number_in words) values numbers h.1))
+fault_by words f n BadSync values numbers fits h = (fits, (same_stream f (value_in words) n (number_in words) values numbers h.0, same_sync f (value_in words) n (number_in words) values numbers h.1))
 fault_by words f n NotUtf8 values numbers fits h = absurd h
 fault_by words f n (Help text) values numbers fits h = absurd h
 fault_by words f n (Usage error) values numbers fits h = absurd h

@@ -1,6 +1,6 @@
 -- The command line, as clap reads it.
 use Rattle.std.specs.Prelude.{◌≡◌, ◌≢◌, ◌≤◌, ◌⊎◌, ◌↔◌, ℕ, pos, min, List, Option, Some, None}
-use Rattle.std.specs.Prelude.{Bool, Result, true, codes, map, string_bytes, []}
+use Rattle.std.specs.Prelude.{Bool, Result, true, false, codes, map, string_bytes, []}
 use Rattle.std.specs.Borrow.{Bor}
 use Rattle.std.specs.Result.{result_unwrap_or}
 use Rattle.std.specs.Str.Parse.{ParsesUnsigned}
@@ -18,11 +18,15 @@ use Rattle.words.specs.declared.Way.{Way}
 use Rattle.words.specs.declared.Way.TheVariants.{Schedule, Threads}
 use Rattle.words.specs.declared.Job.{Job}
 use Rattle.words.specs.declared.StreamJob.{StreamJob}
+use Rattle.words.specs.declared.StoreJob.{StoreJob}
+use Rattle.words.specs.declared.Sync.{Sync}
+use Rattle.words.specs.declared.Sync.TheVariants.{Always, Soon, Never}
 use Rattle.words.specs.declared.Task.{Task}
-use Rattle.words.specs.declared.Task.TheVariants.{Script, Stream}
+use Rattle.words.specs.declared.Task.TheVariants.{Script, Stream, Store}
 use Rattle.words.specs.declared.CommandLineFault.{CommandLineFault}
 use Rattle.words.specs.declared.CommandLineFault.TheVariants.{OneWay, FileMissing, FileGiven}
-use Rattle.words.specs.declared.CommandLineFault.TheVariants.{NotUtf8}
+use Rattle.words.specs.declared.CommandLineFault.TheVariants.{StoreGiven, StoreMissing}
+use Rattle.words.specs.declared.CommandLineFault.TheVariants.{CheckGiven, BadSync, NotUtf8}
 use Rattle.words.specs.declared.CommandLineFault.TheVariants.{Help, Usage, NoMemory}
 
 abbrev pub schedule_rule : Rule
@@ -82,19 +86,34 @@ check_rule = record (new_rule (codes "check")) {
   action = Some SetTrue;
 }
 
+abbrev pub store_rule : Rule
+store_rule = record (new_rule (codes "store")) {
+  long = Some (codes "store");
+  action = Some Set;
+  value_names = 1;
+}
+
+abbrev pub sync_rule : Rule
+sync_rule = record (new_rule (codes "sync")) {
+  long = Some (codes "sync");
+  action = Some Set;
+  value_names = 1;
+}
+
 abbrev pub file_rule : Rule
 file_rule = record (new_rule (codes "file")) { action = Some Set; value_names = 1 }
 
 -- `txsh [--schedule LIST] [--threads] [--stream] [--limit N] [--file-limit N] [--descriptors N]
--- [--path-limit N] [--check] [FILE]`: that exactly one of the three ways is given, and FILE with the
--- first two alone, is the program's own rule, below
+-- [--path-limit N] [--check] [--store FILE] [--sync WHEN] [FILE]`: that exactly one of the three ways
+-- is given, FILE with the first two alone, and what goes with a store, are the program's own rules, below
 abbrev pub txsh : App
 txsh =
     let scripts = with_rule (with_rule (new_app (codes "txsh")) schedule_rule) threads_rule in
     let ways = with_rule scripts stream_rule in
     let lengths = with_rule (with_rule ways limit_rule) file_limit_rule in
     let limits = with_rule (with_rule lengths descriptors_rule) path_limit_rule in
-    with_rule (with_rule limits check_rule) file_rule
+    let stores = with_rule (with_rule (with_rule limits check_rule) store_rule) sync_rule in
+    with_rule stores file_rule
 
 -- a flag is set, by clap's text for it: `true` where the words have it, else `false`
 abbrev pub IsSet : Option Text → Type 0
@@ -167,21 +186,58 @@ pub record HasLimits (number : Text → Option Text) (given : StreamJob) : Type 
       IsLimit DEFAULT_PATH_LIMIT MAX_PATH_LIMIT (number (codes "path_limit")) given.path_limit
   pub check : IsFlag (number (codes "check")) given.check
 
+-- no option of a store is given
+abbrev pub HasNoStore : (Text → Option Text) → Type 0
+HasNoStore value = (value (codes "store") ≡ None) × (value (codes "sync") ≡ None)
+
+-- an option of a store is given
+abbrev pub HasStoreToo : (Text → Option Text) → Type 0
+HasStoreToo value = (value (codes "store") ≢ None) ⊎ (value (codes "sync") ≢ None)
+
+-- when what is done has to be on the disk, by the word for it, if there is one
+abbrev pub IsSync : Option Text → Sync → Type 0
+IsSync word Always = word ≡ Some (codes "always")
+IsSync word Soon = (word ≡ None) ⊎ (word ≡ Some (codes "soon"))
+IsSync word Never = word ≡ Some (codes "never")
+
+-- a word that is none of the three
+abbrev pub IsNoSync : Option Text → Type 0
+IsNoSync word = (sync : Sync) → IsSync word sync → ⊥
+
+abbrev pub IsSyncFault : Option Text → CommandLineFault → Type 0
+IsSyncFault word BadSync = IsNoSync word
+IsSyncFault word _ = ⊥
+
 -- the job of a script that the options' values give
 pub record IsJob (value number : Text → Option Text) (job : Job) : Type 0 where
   pub way : IsWay value number job.way
   pub limits : HasLimits number (limits_in job)
   pub file : value (codes "file") ≡ Some (string_bytes job.file)
+  pub no_store : HasNoStore value
 
--- what the options' values ask of a stream
-pub record IsStreamJob (value number : Text → Option Text) (job : StreamJob) : Type 0 where
+-- what the options' values ask of a stream over a store
+pub record IsStoreOf (value number : Text → Option Text) (job : StoreJob) : Type 0 where
+  pub limits : HasLimits number job.stream
+  pub unchecked : job.stream.check ≡ false
+  pub store : value (codes "store") ≡ Some (string_bytes job.store)
+  pub sync : IsSync (value (codes "sync")) job.sync
+
+-- what they ask of a stream, over a store or not
+abbrev pub IsStreamOf : (Text → Option Text) → (Text → Option Text) → Task → Type 0
+IsStreamOf value number (Script job) = ⊥
+IsStreamOf value number (Stream job) = HasLimits number job × HasNoStore value
+IsStreamOf value number (Store job) = IsStoreOf value number job
+
+-- what the options' values ask where lines are done as they come, and no file is named
+pub record IsStreamTask (value number : Text → Option Text) (task : Task) : Type 0 where
   pub way : IsStream value number
-  pub limits : HasLimits number job
+  pub is : IsStreamOf value number task
   pub no_file : value (codes "file") ≡ None
 
 abbrev pub IsTask : (Text → Option Text) → (Text → Option Text) → Task → Type 0
 IsTask value number (Script job) = IsJob value number job
-IsTask value number (Stream job) = IsStreamJob value number job
+IsTask value number (Stream job) = IsStreamTask value number (Stream job)
+IsTask value number (Store job) = IsStreamTask value number (Store job)
 
 -- limits are within the bounds, and those of a task are
 pub record AreSmall (given : StreamJob) : Type 0 where
@@ -193,6 +249,7 @@ pub record AreSmall (given : StreamJob) : Type 0 where
 abbrev pub IsSmall : Task → Type 0
 IsSmall (Script job) = AreSmall (limits_in job)
 IsSmall (Stream job) = AreSmall job
+IsSmall (Store job) = AreSmall job.stream
 
 -- the texts of borrowed words
 abbrev pub texts : List (Bor Text) → List Text
@@ -215,6 +272,10 @@ abbrev pub status_of : CommandLineFault → ℕ
 status_of OneWay = 2
 status_of FileMissing = 2
 status_of FileGiven = 2
+status_of StoreGiven = 2
+status_of StoreMissing = 2
+status_of CheckGiven = 2
+status_of BadSync = 2
 status_of NotUtf8 = 2
 status_of (Help text) = 0
 status_of (Usage error) = 2
@@ -225,6 +286,10 @@ abbrev pub IsReportedAs : Error → CommandLineFault → Type 0
 IsReportedAs error OneWay = ⊥
 IsReportedAs error FileMissing = ⊥
 IsReportedAs error FileGiven = ⊥
+IsReportedAs error StoreGiven = ⊥
+IsReportedAs error StoreMissing = ⊥
+IsReportedAs error CheckGiven = ⊥
+IsReportedAs error BadSync = ⊥
 IsReportedAs error NotUtf8 = ⊥
 IsReportedAs error (Help text) = (text ≡ error) × (kind_of error ≡ DisplayHelp)
 IsReportedAs error (Usage other) =
@@ -237,6 +302,10 @@ abbrev pub IsParseFault : List Text → CommandLineFault → Type 0
 IsParseFault words OneWay = ⊥
 IsParseFault words FileMissing = ⊥
 IsParseFault words FileGiven = ⊥
+IsParseFault words StoreGiven = ⊥
+IsParseFault words StoreMissing = ⊥
+IsParseFault words CheckGiven = ⊥
+IsParseFault words BadSync = ⊥
 IsParseFault words NotUtf8 = ⊥
 IsParseFault words (Help text) =
     (kind_of text ≡ DisplayHelp) × IsAmong DisplayHelp (fault_of txsh words)
@@ -246,14 +315,35 @@ IsParseFault words (Usage error) =
     × IsAmong (kind_of error) (fault_of txsh words)
 IsParseFault words NoMemory = Unit {0}
 
+-- a script is to be run
+abbrev pub IsScript : (Text → Option Text) → (Text → Option Text) → Type 0
+IsScript value number = (way : Way) × IsWay value number way
+
 -- a script is to be run, and no file is named
 abbrev pub HasNoFile : (Text → Option Text) → (Text → Option Text) → Type 0
-HasNoFile value number =
-    ((way : Way) × IsWay value number way) × (value (codes "file") ≡ None)
+HasNoFile value number = IsScript value number × (value (codes "file") ≡ None)
 
 -- lines are to be done as they come, and a file is named
 abbrev pub HasFileToo : (Text → Option Text) → (Text → Option Text) → Type 0
 HasFileToo value number = IsStream value number × (value (codes "file") ≢ None)
+
+-- why a stream over a store that is named is none
+abbrev pub IsStoreFault : (Text → Option Text) → (Text → Option Text) → CommandLineFault → Type 0
+IsStoreFault value number CheckGiven =
+    (value (codes "store") ≢ None) × IsSet (number (codes "check"))
+IsStoreFault value number BadSync =
+    (value (codes "store") ≢ None) × IsNoSync (value (codes "sync"))
+IsStoreFault value number NoMemory = Unit {0}
+IsStoreFault value number _ = ⊥
+
+-- why there is no stream, over a store or not
+abbrev pub IsStreamFault : (Text → Option Text) → (Text → Option Text) → CommandLineFault → Type 0
+IsStreamFault value number StoreMissing =
+    (value (codes "store") ≡ None) × (value (codes "sync") ≢ None)
+IsStreamFault value number CheckGiven = IsStoreFault value number CheckGiven
+IsStreamFault value number BadSync = IsStoreFault value number BadSync
+IsStreamFault value number NoMemory = Unit {0}
+IsStreamFault value number _ = ⊥
 
 -- why the values give no task
 abbrev pub IsTaskFault :
@@ -261,11 +351,17 @@ abbrev pub IsTaskFault :
 IsTaskFault value number OneWay = HasNotOneWay value number
 IsTaskFault value number FileMissing = HasNoFile value number
 IsTaskFault value number FileGiven = HasFileToo value number
+IsTaskFault value number StoreGiven = IsScript value number × HasStoreToo value
+IsTaskFault value number StoreMissing =
+    IsStream value number × IsStreamFault value number StoreMissing
+IsTaskFault value number CheckGiven =
+    IsStream value number × IsStoreFault value number CheckGiven
+IsTaskFault value number BadSync = IsStream value number × IsStoreFault value number BadSync
 IsTaskFault value number NoMemory = Unit {0}
 IsTaskFault value number _ = ⊥
 
--- why the words give no task: clap finds no fault in them and the ways and the file that they name
--- do not go together, or no matches
+-- why the words give no task: clap finds no fault in them and the ways, the file and the store that they
+-- name do not go together, or no matches
 abbrev pub IsFaultOf : List Text → CommandLineFault → Type 0
 IsFaultOf words OneWay =
     (fault_of txsh words ≡ []) × HasNotOneWay (value_in words) (number_in words)
@@ -273,4 +369,16 @@ IsFaultOf words FileMissing =
     (fault_of txsh words ≡ []) × HasNoFile (value_in words) (number_in words)
 IsFaultOf words FileGiven =
     (fault_of txsh words ≡ []) × HasFileToo (value_in words) (number_in words)
+IsFaultOf words StoreGiven =
+    (fault_of txsh words ≡ [])
+    × IsTaskFault (value_in words) (number_in words) StoreGiven
+IsFaultOf words StoreMissing =
+    (fault_of txsh words ≡ [])
+    × IsTaskFault (value_in words) (number_in words) StoreMissing
+IsFaultOf words CheckGiven =
+    (fault_of txsh words ≡ [])
+    × IsTaskFault (value_in words) (number_in words) CheckGiven
+IsFaultOf words BadSync =
+    (fault_of txsh words ≡ [])
+    × IsTaskFault (value_in words) (number_in words) BadSync
 IsFaultOf words other = IsParseFault words other

@@ -1,15 +1,17 @@
 //! The command line of `txsh`:
-//! `txsh (--schedule LIST | --threads) [LIMITS] [--check] FILE`, or `txsh --stream [LIMITS] [--check]`,
-//! where the limits are `--limit N`, `--file-limit N`, `--descriptors N` and `--path-limit N`.
+//! `txsh (--schedule LIST | --threads) [LIMITS] [--check] FILE`, `txsh --stream [LIMITS] [--check]`, or
+//! `txsh --stream [LIMITS] --store FILE [--sync WHEN]`, where the limits are `--limit N`, `--file-limit N`, `--descriptors N` and `--path-limit N`.
 #![tactic(auto)]
 
-ghost use Rattle.std.specs.Prelude.{◌≡◌, ◌≤◌, [], false, IfOk, IfErr, codes, string_bytes};
+ghost use Rattle.std.specs.Prelude.{◌≡◌, ◌≤◌, [], Some, false, true, IfOk, IfErr, codes, option_map, string_bytes};
 ghost use Rattle.clap.specs.Words.{app_of, fault_of, first_value, found_of, one_text, rule_of};
-ghost use Rattle.words.specs.Txsh.{AreSmall, HasLimits, IsFaultOf, IsFlag, IsLimit, IsParseFault};
-ghost use Rattle.words.specs.Txsh.{IsReportedAs, IsSmall, IsTask, IsTaskFault, IsWayOrNone};
+ghost use Rattle.words.specs.Txsh.{AreSmall, HasLimits, HasNoStore, HasStoreToo, IsFaultOf, IsFlag};
+ghost use Rattle.words.specs.Txsh.{IsLimit, IsParseFault, IsReportedAs, IsSmall, IsStoreFault};
+ghost use Rattle.words.specs.Txsh.{IsStoreOf, IsStreamFault, IsStreamOf, IsSync, IsSyncFault, IsTask};
+ghost use Rattle.words.specs.Txsh.{IsTaskFault, IsWay, IsWayOrNone};
 ghost use Rattle.words.specs.Txsh.{SameMatches, check_rule, descriptors_rule, file_limit_rule};
 ghost use Rattle.words.specs.Txsh.{file_rule, limit_rule, limits_in, path_limit_rule, number_in};
-ghost use Rattle.words.specs.Txsh.{schedule_rule, status_of, stream_rule, texts};
+ghost use Rattle.words.specs.Txsh.{schedule_rule, status_of, store_rule, stream_rule, sync_rule, texts};
 ghost use Rattle.words.specs.Txsh.{threads_rule, txsh, value_in};
 
 use clap::error::ErrorKind;
@@ -67,6 +69,41 @@ pub enum Task {
     Script(Job),
     /// Each line of standard input is done and answered as it comes.
     Stream(StreamJob),
+    /// The same, and what is done is kept in a store.
+    Store(StoreJob),
+}
+
+/// When what is done has to be on the disk.
+#[derive(Clone, Copy, Debug, PartialEq, Eq)]
+pub enum Sync {
+    /// Before it is answered.
+    Always,
+    /// Where it is the end of a transaction, before it is answered; else before more input is waited
+    /// for.
+    Soon,
+    /// Whenever the system writes it.
+    Never,
+}
+
+/// What is asked of a stream over a store.
+#[derive(Debug)]
+pub struct StoreJob {
+    /// What is asked of a stream. Nothing is checked.
+    pub stream: StreamJob,
+    /// The store's file.
+    pub store: String<Heap>,
+    /// When what is done has to be on the disk.
+    pub sync: Sync,
+}
+
+impl Drop for StoreJob {
+    fn drop(self) {
+        let StoreJob {
+            stream: _,
+            store: _,
+            sync: _,
+        } = self;
+    }
 }
 
 /// What is asked of a stream.
@@ -129,6 +166,18 @@ pub enum CommandLineFault {
     /// The operations come on standard input, and a file is named.
     #[error("no FILE goes with --stream")]
     FileGiven,
+    /// A script is to be run, and a store is named, or when it is on the disk.
+    #[error("--store and --sync go with --stream")]
+    StoreGiven,
+    /// No store is named, and when it is on the disk.
+    #[error("--sync goes with --store")]
+    StoreMissing,
+    /// A store is named, and the history is to be checked.
+    #[error("no --check goes with --store")]
+    CheckGiven,
+    /// The word behind `--sync` is none of the three.
+    #[error("--sync is always, soon or never")]
+    BadSync,
     /// A word is not UTF-8.
     #[error("an argument is not UTF-8")]
     NotUtf8,
@@ -153,6 +202,10 @@ impl CommandLineFault {
             CommandLineFault::OneWay
             | CommandLineFault::FileMissing
             | CommandLineFault::FileGiven
+            | CommandLineFault::StoreGiven
+            | CommandLineFault::StoreMissing
+            | CommandLineFault::CheckGiven
+            | CommandLineFault::BadSync
             | CommandLineFault::NotUtf8
             | CommandLineFault::Usage(_) => 2,
             CommandLineFault::NoMemory => 3,
@@ -164,6 +217,7 @@ impl CommandLineFault {
 // clap's own usage line would call `--schedule`, `--threads`, `--stream` and the file options.
 const USAGE: &str = "txsh (--schedule <LIST> | --threads) [LIMITS] [--check] <FILE>
        txsh --stream [LIMITS] [--check]
+       txsh --stream [LIMITS] --store <FILE> [--sync <WHEN>]
        LIMITS: [--limit <N>] [--file-limit <N>] [--descriptors <N>] [--path-limit <N>]";
 
 const ABOUT: &str =
@@ -173,10 +227,14 @@ const EXAMPLES: &str = "Examples:
   txsh --schedule 1,1,2,1,2 examples/first-run.tx
   txsh --threads examples/first-run.tx
   txsh --stream <examples/first-run.tx
+  txsh --stream --store kept.store <examples/first-run.tx
 
 With --stream each line of standard input, a file, a pipe or a terminal, is done as it comes. An
 operation is answered by its line, and a line that asks none by one that begins with a question
-mark. All lines that have come are answered before the program waits for more.";
+mark. All lines that have come are answered before the program waits for more.
+
+With --store what is done outlives the program: it is kept in FILE, and is there when the store is
+opened again. A transaction that is answered \"committed\" is on the disk, whole.";
 
 // `--schedule LIST`
 fn schedule_arg<'a>(alloc: Global) -> Arg<'a>
@@ -275,6 +333,32 @@ fn check_arg<'a>(alloc: Global) -> Arg<'a>
         .action(ArgAction::SetTrue)
 }
 
+// `--store FILE`
+fn store_arg<'a>(alloc: Global) -> Arg<'a>
+    ensures rule { rule_of result ≡ store_rule }
+    ensures local { result.global ≡ false }
+{
+    Arg::new(alloc, "store")
+        .long("store")
+        .value_name("FILE")
+        .help("The file in which what is done is kept; it is made where there is none")
+        .action(ArgAction::Set)
+}
+
+// `--sync WHEN`
+fn sync_arg<'a>(alloc: Global) -> Arg<'a>
+    ensures rule { rule_of result ≡ sync_rule }
+    ensures local { result.global ≡ false }
+{
+    Arg::new(alloc, "sync")
+        .long("sync")
+        .value_name("WHEN")
+        .help(
+            "When it is on the disk: always, before an answer; soon, before the answer to an end; never",
+        )
+        .action(ArgAction::Set)
+}
+
 // `FILE`
 fn file_arg<'a>(alloc: Global) -> Arg<'a>
     ensures rule { rule_of result ≡ file_rule }
@@ -298,7 +382,9 @@ fn command<'a>(alloc: Global) -> Result<Command<'a>, AllocError>
     let with_descriptors = with_file_limit.arg(descriptors_arg(alloc))?;
     let with_path_limit = with_descriptors.arg(path_limit_arg(alloc))?;
     let with_check = with_path_limit.arg(check_arg(alloc))?;
-    let with_file = with_check.arg(file_arg(alloc))?;
+    let with_store = with_check.arg(store_arg(alloc))?;
+    let with_sync = with_store.arg(sync_arg(alloc))?;
+    let with_file = with_sync.arg(file_arg(alloc))?;
     Ok(
         with_file
             .override_usage(USAGE)
@@ -420,6 +506,89 @@ fn stream_job_of(matches: &ArgMatches) -> StreamJob
     }
 }
 
+// When what is done has to be on the disk, by the word that is given for it, if one is.
+fn sync_of(word: Option<&str>) -> Result<Sync, CommandLineFault>
+    ensures ok { IfOk result (IsSync (option_map (λ w. w.now) word.entry)) }
+    ensures err { IfErr result (IsSyncFault (option_map (λ w. w.now) word.entry)) }
+{
+    match word {
+        None => Ok(Sync::Soon),
+        Some("always") => Ok(Sync::Always),
+        Some("soon") => Ok(Sync::Soon),
+        Some("never") => Ok(Sync::Never),
+        Some(_) => Err(CommandLineFault::BadSync),
+    }
+}
+
+// What is asked of a stream over the store of this name.
+fn store_job_of(heap: Heap, matches: &ArgMatches, store: &str) -> Result<StoreJob, CommandLineFault>
+    requires { first_value (found_of matches.now) (codes "store") ≡ Some store.now }
+    ensures ok { IfOk result
+        (IsStoreOf (first_value (found_of matches.now)) (one_text (found_of matches.now))) }
+    ensures err { IfErr result
+        (IsStoreFault (first_value (found_of matches.now)) (one_text (found_of matches.now))) }
+    ensures small { IfOk result (λ job. AreSmall job.stream) }
+{
+    let stream = stream_job_of(matches);
+    if stream.check {
+        return Err(CommandLineFault::CheckGiven);
+    }
+    let sync = sync_of(matches.get_str("sync"))?;
+    let store = owned_text(heap, store)?;
+    Ok(StoreJob {
+        stream,
+        store,
+        sync,
+    })
+}
+
+// The task of lines that are done as they come: over a store, where one is named.
+fn stream_task_of(heap: Heap, matches: &ArgMatches) -> Result<Task, CommandLineFault>
+    ensures ok { IfOk result
+        (IsStreamOf (first_value (found_of matches.now)) (one_text (found_of matches.now))) }
+    ensures err { IfErr result
+        (IsStreamFault (first_value (found_of matches.now)) (one_text (found_of matches.now))) }
+    ensures small { IfOk result IsSmall }
+{
+    match (matches.get_str("store"), matches.get_str("sync")) {
+        (Some(store), _) => Ok(Task::Store(store_job_of(heap, matches, store)?)),
+        (None, None) => Ok(Task::Stream(stream_job_of(matches))),
+        (None, Some(_)) => Err(CommandLineFault::StoreMissing),
+    }
+}
+
+// Whether an option of a store is given.
+fn has_store_options(matches: &ArgMatches) -> bool
+    ensures yes { result ≡ true → HasStoreToo (first_value (found_of matches.now)) }
+    ensures no { result ≡ false → HasNoStore (first_value (found_of matches.now)) }
+{
+    matches.get_str("store").is_some() || matches.get_str("sync").is_some()
+}
+
+// The task of a script that is run in this way, whose file has this name.
+fn script_task_of(
+    heap: Heap,
+    matches: &ArgMatches,
+    way: Way,
+    file: &str,
+) -> Result<Task, CommandLineFault>
+    requires way { IsWay
+        (first_value (found_of matches.now)) (one_text (found_of matches.now)) way }
+    requires file { first_value (found_of matches.now) (codes "file") ≡ Some file.now }
+    ensures ok { IfOk result
+        (IsTask (first_value (found_of matches.now)) (one_text (found_of matches.now))) }
+    ensures err { IfErr result
+        (IsTaskFault (first_value (found_of matches.now)) (one_text (found_of matches.now))) }
+    ensures small { IfOk result IsSmall }
+{
+    let other = has_store_options(matches);
+    if other {
+        drop(way);
+        return Err(CommandLineFault::StoreGiven);
+    }
+    Ok(Task::Script(job_of(heap, matches, way, file)?))
+}
+
 // The task that the matches give. A script has a file, and a stream has none.
 fn task_of(heap: Heap, matches: &ArgMatches) -> Result<Task, CommandLineFault>
     ensures ok { IfOk result
@@ -429,8 +598,8 @@ fn task_of(heap: Heap, matches: &ArgMatches) -> Result<Task, CommandLineFault>
     ensures small { IfOk result IsSmall }
 {
     match (way_of(heap, matches)?, matches.get_str("file")) {
-        (Some(way), Some(file)) => Ok(Task::Script(job_of(heap, matches, way, file)?)),
-        (None, None) => Ok(Task::Stream(stream_job_of(matches))),
+        (Some(way), Some(file)) => script_task_of(heap, matches, way, file),
+        (None, None) => stream_task_of(heap, matches),
         (Some(way), None) => {
             drop(way);
             Err(CommandLineFault::FileMissing)
@@ -454,7 +623,9 @@ fn owned_text(heap: Heap, text: &str) -> Result<String<Heap>, CommandLineFault>
 ///
 /// Words that fit the command's usage give a task where exactly one of the three ways is among
 /// them, else `OneWay`, and where a file is named for a script and none for a stream, else
-/// `FileMissing` or `FileGiven`. Other words give `Help`, where help is asked for first, or else
+/// `FileMissing` or `FileGiven`; and where a store is named only for a stream, which is not checked, else
+/// `StoreGiven` or `CheckGiven`, and `--sync` is one of its three words, else `BadSync`, and goes with a store,
+/// else `StoreMissing`. Other words give `Help`, where help is asked for first, or else
 /// `Usage`, in clap's own words. `NoMemory` may come in place of each, where memory was refused.
 /// `NotUtf8` never comes, since the words are UTF-8 here.
 pub fn read_words<'a>(

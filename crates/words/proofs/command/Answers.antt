@@ -13,5 +13,7 @@ returns c =
     let open_files = c.in_ok-with_descriptors.ensures.shape c.descriptors_arg.ensures.local ∙ ap₂ with_rule fourth c.descriptors_arg.ensures.rule in
     let paths = c.in_ok-with_path_limit.ensures.shape c.path_limit_arg.ensures.local ∙ ap₂ with_rule open_files c.path_limit_arg.ensures.rule in
     let fifth = c.in_ok-with_check.ensures.shape c.check_arg.ensures.local ∙ ap₂ with_rule paths c.check_arg.ensures.rule in
-    let sixth = c.in_ok-with_file.ensures.shape c.file_arg.ensures.local ∙ ap₂ with_rule fifth c.file_arg.ensures.rule in
+    let stored = c.in_ok-with_store.ensures.shape c.store_arg.ensures.local ∙ ap₂ with_rule fifth c.store_arg.ensures.rule in
+    let synced = c.in_ok-with_sync.ensures.shape c.sync_arg.ensures.local ∙ ap₂ with_rule stored c.sync_arg.ensures.rule in
+    let sixth = c.in_ok-with_file.ensures.shape c.file_arg.ensures.local ∙ ap₂ with_rule synced c.file_arg.ensures.rule in
     ap app_of_fields c.after_help.ensures ∙ ap app_of_fields c.about.ensures ∙ ap app_of_fields c.override_usage.ensures ∙ sixth

@@ -1,4 +1,4 @@
-use Rattle.std.proofs.Common.{◌≡◌, ◌≢◌, ◌∙◌, ap, refl, List, true, subst, sym, inl, inr}
+use Rattle.std.proofs.Common.{◌≡◌, ◌≢◌, ◌∙◌, ap, refl, List, [], true, subst, sym, inl, inr}
 use Rattle.clap.specs.Words.{App, HasKind, HasMatchesOf, IsAmong, Kinds, Row, Text, fault_of, first_of, first_value, found_of, is_simple, is_simple_and_free, kind_of, matches_of, one_of, one_text}
 use Rattle.clap.specs.declared.error.Error.{Error}
 use Rattle.clap.specs.declared.error.kind.ErrorKind.{ErrorKind}
@@ -8,7 +8,7 @@ use Rattle.clap.proofs.OnLiterals.{clap_on_literals}
 use Rattle.clap.proofs.WalkLemmas.{first_value-rows, one_text-rows}
 use Rattle.words.specs.Txsh.{IsParseFault, IsReportedAs, number_in, texts, txsh, value_in}
 use Rattle.words.specs.declared.CommandLineFault.{CommandLineFault}
-use Rattle.words.specs.declared.CommandLineFault.TheVariants.{OneWay, FileMissing, FileGiven, NotUtf8, Help, Usage, NoMemory}
+use Rattle.words.specs.declared.CommandLineFault.TheVariants.{OneWay, FileMissing, FileGiven, StoreGiven, StoreMissing, CheckGiven, BadSync, NotUtf8, Help, Usage, NoMemory}
 use Rattle.words.proofs.matches_for.Goals as goal
 
 simple : is_simple txsh ≡ true
@@ -37,6 +37,12 @@ simple_and_free : is_simple_and_free txsh ≡ true
 unfolding clap_on_literals
 simple_and_free = refl
 
+fits_is : (a : App) (words : List Text) → a ≡ txsh → (is_simple_and_free a ≡ true → fault_of a words ≡ []) → fault_of txsh words ≡ []
+fits_is a words is kinds = subst (λ (b : App). fault_of b words ≡ []) is (kinds (ap is_simple_and_free is ∙ simple_and_free))
+
+pub returns-in-Ok-try_get_matches_from-clause-fits : goal.returns-in-Ok-try_get_matches_from-clause-fits
+returns-in-Ok-try_get_matches_from-clause-fits c = fits_is _ _ c.in-Ok.ensures c.in-Ok-try_get_matches_from.ensures.kinds
+
 -- a kind that is not want of memory is among the kinds that may come
 among : (kinds : Kinds) (error other : Error) → other ≡ error → kind_of error ≢ OutOfMemory → HasKind kinds error → IsAmong (kind_of other) kinds
 among kinds error other same not_memory (inl memory) = absurd (not_memory memory)
@@ -58,6 +64,10 @@ reported : (words : List Text) (error : Error) (fault : CommandLineFault) → Ha
 reported words error OneWay has is = is
 reported words error FileMissing has is = is
 reported words error FileGiven has is = is
+reported words error StoreGiven has is = is
+reported words error StoreMissing has is = is
+reported words error CheckGiven has is = is
+reported words error BadSync has is = is
 reported words error NotUtf8 has is = is
 reported words error (Help text) has is = help_is (fault_of txsh words) error text is.0 is.1 has
 reported words error (Usage other) has is =
