@@ -255,12 +255,7 @@ static LINES: [(u64, &str, u8, &str); 60] = [
         0,
         "StoreJob { stream: StreamJob { limit: 65536, file_limit: 1048576, descriptors: 64, path_limit: 1024, check: false }, store: \"kept\", sync: Soon }",
     ),
-    (
-        1,
-        "txsh --stream --store kept",
-        3,
-        "no memory",
-    ),
+    (1, "txsh --stream --store kept", 3, "no memory"),
     (
         0,
         "txsh --store=kept --sync always --stream",
