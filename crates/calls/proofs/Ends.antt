@@ -34,7 +34,7 @@ module _ (k : Kernel) (pid : ℕ) (call : Call) (b : Bool) (p : Plan) (start mid
   saw : (r : Result Change Refused) → asked k (plan (own k pid call) call) start ≡ (r, mid) → mid ≡ noting (if b then Some [] else None) (seen k (plan (own k pid call) call))
   saw r h = sym (ap (λ x. x.1) (sym (asked-is k (plan (own k pid call) call) start) ∙ h)) ∙ ap (λ s. noting s (seen k (plan (own k pid call) call))) begins
 
-  pub plan_ok : (change : Change) → asked k (plan (own k pid call) call) start ≡ (Ok change, mid) → p.answer ≡ Ok change.reply → p.touches.items ≡ unwrap_or mid [] ++ writing (flat_map marks change.edits) → p.edits.items ≡ change.edits → IsPlan k pid call b p
+  pub plan_ok : (change : Change) → asked k (plan (own k pid call) call) start ≡ (Ok change, mid) → p.answer ≡ Ok change.reply → p.touches ≡ unwrap_or mid [] ++ writing (flat_map marks change.edits) → p.edits.items ≡ change.edits → IsPlan k pid call b p
   plan_ok change h answer touches edits = record {
     answer = answer ∙ sym (ap reply_of (outcome (Ok change) h));
     touches = touches
@@ -43,7 +43,7 @@ module _ (k : Kernel) (pid : ℕ) (call : Call) (b : Bool) (p : Plan) (start mid
     edits = edits ∙ sym (ap edits_of (outcome (Ok change) h));
   }
 
-  pub plan_err : (e : Refused) → asked k (plan (own k pid call) call) start ≡ (Err e, mid) → p.answer ≡ Err e → p.touches.items ≡ unwrap_or mid [] → p.edits.items ≡ [] → IsPlan k pid call b p
+  pub plan_err : (e : Refused) → asked k (plan (own k pid call) call) start ≡ (Err e, mid) → p.answer ≡ Err e → p.touches ≡ unwrap_or mid [] → p.edits.items ≡ [] → IsPlan k pid call b p
   plan_err e h answer touches edits = record {
     answer = answer ∙ sym (ap reply_of (outcome (Err e) h));
     touches = touches ∙ sym (append-nil _)
@@ -53,7 +53,7 @@ module _ (k : Kernel) (pid : ℕ) (call : Call) (b : Bool) (p : Plan) (start mid
   }
 
 -- The same where nobody asks for touches.
-module _ (k : Kernel) (pid : ℕ) (call : Call) (p : Plan) (start mid : Option (List Touch)) (none : p.touches.items ≡ []) where
+module _ (k : Kernel) (pid : ℕ) (call : Call) (p : Plan) (start mid : Option (List Touch)) (none : p.touches ≡ []) where
   came_to : (r : Result Change Refused) → asked k (plan (own k pid call) call) start ≡ (r, mid) → given k (plan (own k pid call) call) ≡ r
   came_to r h = ap (λ x. x.0) (sym (asked-is k (plan (own k pid call) call) start) ∙ h)
 

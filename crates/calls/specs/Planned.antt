@@ -12,11 +12,11 @@ counting false ts = filter (λ t. t.write) ts
 
 pub record IsPlan (k : Kernel) (pid : ℕ) (call : Call) (reads_count : Bool) (p : Plan) : Type 0 where
   pub answer : p.answer ≡ reply k pid call
-  pub touches : p.touches.items ≡ counting reads_count (touches k pid call)
+  pub touches : p.touches ≡ counting reads_count (touches k pid call)
   pub edits : p.edits.items ≡ edits k pid call
 
 -- what a call comes to where nobody asks what it touches
 pub record IsPlanWithoutTouches (k : Kernel) (pid : ℕ) (call : Call) (p : Plan) : Type 0 where
   pub answer : p.answer ≡ reply k pid call
-  pub touches : p.touches.items ≡ []
+  pub touches : p.touches ≡ []
   pub edits : p.edits.items ≡ edits k pid call

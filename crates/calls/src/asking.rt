@@ -33,21 +33,7 @@ fn read_blocks(reads: &mut Reads, file: Num, offset: u32, count: u32) -> Result<
     ensures { OnOk result (reads.new ≡ noting reads.old (map (Block file) (blocks offset count))) }
 {
     let (first, len) = blocks_of(offset, count);
-    for more in 0..len {
-        reads.add(Aspect::Block(file, first + more))?;
-    }
-    Ok(())
-}
-
-// Reads so many blocks of a file from one on.
-fn read_row(reads: &mut Reads, file: Num, first: u32, count: u32) -> Result<(), AllocError>
-    requires { first + count < 2 ^ 32 }
-    ensures { OnOk result (reads.new ≡ noting reads.old (map (Block file) (rising first count))) }
-{
-    for more in 0..count {
-        reads.add(Aspect::Block(file, first + more))?;
-    }
-    Ok(())
+    reads.add_blocks(file, first, len)
 }
 
 // How many blocks of a file from one on, so many at most, are holes, or are none. It reads them and
@@ -66,7 +52,7 @@ pub(crate) fn pass<L: Look>(
 {
     let (first, count) = blocks;
     let passed = look.pass(reads.heap(), file, holes, first, count)?;
-    read_row(reads, file, first, count.min(passed + 1))?;
+    reads.add_blocks(file, first, count.min(passed + 1))?;
     Ok(passed)
 }
 

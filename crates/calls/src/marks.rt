@@ -9,7 +9,7 @@ ghost use Rattle.look.specs.Asked.{writing};
 use crate::asking::blocks_of;
 use ids::{Aspect, Edit, Name, Num, Replaced};
 use std::alloc::AllocError;
-use walk::Touches;
+use touches::Touches;
 
 // What these changes write, in order.
 pub(crate) fn mark_all(edits: &[Edit], touches: &mut Touches) -> Result<(), AllocError>
@@ -73,10 +73,7 @@ fn mark_blocks(file: Num, offset: u32, count: u32, touches: &mut Touches) -> Res
         (touches.new ≡ touches.old ++ writing (map (Block file) (blocks offset count))) }
 {
     let (first, len) = blocks_of(offset, count);
-    for more in 0..len {
-        touches.write(Aspect::Block(file, first + more))?;
-    }
-    Ok(())
+    touches.push_blocks(file, first, len, true)
 }
 
 // Bytes of a file that had so many before.

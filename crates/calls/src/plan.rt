@@ -12,13 +12,14 @@ use crate::marks::mark_all;
 use crate::ranges::fallocate;
 use crate::seek::lseek;
 use heap::Heap;
-use ids::{Answer, Call, Edit, Errno, Pid, Refusal, Touch};
+use ids::{Answer, Call, Edit, Errno, Pid, Refusal};
 use look::Look;
 use path_calls::{
     Change, chmod, chown, exchange, link, list, lstat, mkdir, mknod, readlink, rename, rmdir, stat,
     symlink, truncate, unlink,
 };
 use std::alloc::AllocError;
+use touches::Touches;
 use walk::Reads;
 
 /// What a call comes to, before it takes effect.
@@ -27,7 +28,7 @@ pub struct Plan {
     /// The answer or the refusal.
     pub answer: Result<Answer, Errno>,
     /// What it touches, in order: what it reads, where that counts, and then what it writes.
-    pub touches: Vec<Touch, Heap>,
+    pub touches: Touches,
     /// What it changes, in order.
     pub edits: Vec<Edit, Heap>,
 }
@@ -51,13 +52,13 @@ pub fn plan_of<L: Look>(
             mark_all(edits.as_slice(), &mut touches)?;
             Ok(Plan {
                 answer: Ok(answer),
-                touches: touches.into_vec(),
+                touches,
                 edits: edits.into_vec(),
             })
         }
         Err(Refusal::Errno(errno)) => Ok(Plan {
             answer: Err(errno),
-            touches: reads.into_touches().into_vec(),
+            touches: reads.into_touches(),
             edits: Vec::new(heap),
         }),
         Err(Refusal::NoMemory) => Err(AllocError),
@@ -80,13 +81,13 @@ pub fn plan_without_touches<L: Look>(
             let Change { answer, edits } = change;
             Ok(Plan {
                 answer: Ok(answer),
-                touches: Vec::new(heap),
+                touches: Touches::new(heap),
                 edits: edits.into_vec(),
             })
         }
         Err(Refusal::Errno(errno)) => Ok(Plan {
             answer: Err(errno),
-            touches: Vec::new(heap),
+            touches: Touches::new(heap),
             edits: Vec::new(heap),
         }),
         Err(Refusal::NoMemory) => Err(AllocError),

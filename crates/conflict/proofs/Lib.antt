@@ -1,2 +1,5 @@
 mod Names
 mod Placed
+pub mod Firsts
+mod Runs
+pub mod Steps

@@ -234,7 +234,7 @@ before_from t c d less mine also h k =
     ∙ sym (name_lt_is (place_of c) (place_of d))
     ∙ less_by t c d (slice_cmp nat_cmp (place_of c) (place_of d)) refl less mine also h k
 
-abbrev AllClash : Touch → List Clash → Type 0
+abbrev pub AllClash : Touch → List Clash → Type 0
 AllClash t cs = AllByRecursion (λ c. clash t c.theirs ≡ true) cs
 
 before_all : (t : Touch) (c : Clash) (cs : List Clash) → AllByRecursion (λ d. clash_cmp c d ≡ Less) cs → c.mine ≡ t → AreOfTouch t cs → clash t c.theirs ≡ true → AllClash t cs → AllByRecursion (λ d. is_before t c d ≡ true) cs
@@ -260,14 +260,14 @@ or_right : (a b : Bool) → b ≡ true → (a || b) ≡ true
 or_right true b h = refl
 or_right false b h = h
 
-all_clash : (t : Touch) (cs : List Clash) → ((q : ℕ) (u : Touch) → is_found q u cs ≡ true → clash t u ≡ true) → AllClash t cs
+pub all_clash : (t : Touch) (cs : List Clash) → ((q : ℕ) (u : Touch) → is_found q u cs ≡ true → clash t u ≡ true) → AllClash t cs
 all_clash t [] h = tt
 all_clash t (c ∷ cs) h = (
   h c.other c.theirs (found_first c cs),
   all_clash t cs (λ q u e. h q u (or_right ((c.other == q) && has_touch u.aspect u.write (c.theirs ∷ [])) (is_found q u cs) e)),
 )
 
-second_of : (a b c : Bool) → (a && (b && c)) ≡ true → b ≡ true
+pub second_of : (a b c : Bool) → (a && (b && c)) ≡ true → b ≡ true
 second_of true b c h = (and_parts b c h).0
 second_of false b c h = absurd (false≢true h)
 

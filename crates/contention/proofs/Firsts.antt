@@ -113,7 +113,7 @@ key_there (e ∷ es) q = some_found (is_eq (nat_cmp q e.0)) e.1 (lookup (λ k. i
 here_below : (n q : ℕ) (c : Clash) → c.other < n → (c.other == q) ≡ true → q < n
 here_below n q c l h = let e : c.other ≡ q = eqb-true c.other q h in omega arith
 
-with_below : (cs : List Clash) (n q : ℕ) → All (λ c. c.other < n) cs → is_with q cs ≡ true → q < n
+pub with_below : (cs : List Clash) (n q : ℕ) → All (λ c. c.other < n) cs → is_with q cs ≡ true → q < n
 with_below [] n q all h = absurd (false≢true h)
 with_below (c ∷ cs) n q all h = elim (or_cases (c.other == q) (is_with q cs) h) [
   | inl here ↦ here_below n q c (all 0 c (omega arith)) here

@@ -8,5 +8,6 @@ pub mod Least
 pub mod Told
 pub mod Lost
 pub mod Reached
+pub mod Condensed
 pub mod Standing
 pub mod Turned

@@ -18,12 +18,13 @@ mod rank;
 mod twice;
 
 use heap::Heap;
-use ids::{Age, Cause, ListMode, Num, Pid, Priority, Rank, Touch};
+use ids::{Age, Cause, ListMode, Num, Pid, Priority, Rank};
 use marked_records::MarkedRecords;
 pub use rank::{Ranks, yields_to};
 use records::Records;
 use std::alloc::AllocError;
 use std::marker::Model;
+use touches::Touches;
 pub use twice::Twice;
 
 /// A process that a call dooms.
@@ -179,11 +180,11 @@ impl Contenders {
     }
 
     /// A process's transaction touches these too. Refused memory changes nothing.
-    pub fn add(&mut self, pid: Pid, touches: Vec<Touch, Heap>) -> Result<(), AllocError>
+    pub fn add(&mut self, pid: Pid, touches: Touches) -> Result<(), AllocError>
         requires { pid < length self.old }
         ensures ok { let own = contender_at self.old pid in
             OnOk result (SetsContender self.old self.new pid
-            (record own { touches = with_touches own.touches touches.entry.items })) }
+            (record own { touches = with_touches own.touches touches })) }
         ensures err { OnErr result (self.new ≡ self.old) }
     {
         self.records.add(pid, touches)?;
@@ -191,7 +192,7 @@ impl Contenders {
     }
 
     /// How many touches a process's transaction has, each counted once.
-    pub fn count(&self, pid: Pid) -> usize
+    pub fn count(&self, pid: Pid) -> u128
         requires { pid < length self.now }
         ensures { result ≡ length (contender_at self.now pid).touches }
     {
@@ -200,7 +201,7 @@ impl Contenders {
 
     /// The touches of a process's transaction behind the first so many are forgotten, as before
     /// they were added. It takes no memory.
-    pub fn keep_first(&mut self, pid: Pid, count: usize)
+    pub fn keep_first(&mut self, pid: Pid, count: u128)
         requires { pid < length self.old }
         ensures { let own = contender_at self.old pid in
             SetsContender self.old self.new pid
@@ -233,13 +234,13 @@ impl Contenders {
     /// own where both are live and the other began earlier. So it is for every table; where the
     /// table is as a history has it, this is the verdict of the definitions. Refused memory changes
     /// nothing.
-    pub fn verdict(&self, heap: Heap, pid: Pid, touches: &[Touch]) -> Result<Verdict, AllocError>
+    pub fn verdict(&self, heap: Heap, pid: Pid, touches: &Touches) -> Result<Verdict, AllocError>
         requires { pid < length self.now }
         ensures exact { IfOk result (IsVerdictAmong self.now pid touches.now) }
         ensures verdict { (m : Moment) → AreContendersOf m self.now
             → IfOk result (IsVerdict m pid touches.now) }
     {
-        let found = self.records.clashes(heap, pid, touches)?;
+        let found = self.records.first_clashes(heap, pid, touches)?;
         let rank = self.ranks.get(pid);
         judge::verdict(heap, pid, rank, found.as_slice(), &self.ranks)
     }

@@ -110,7 +110,7 @@ module _ (f : Fields) (pid : ℕ) (within : Option (BeginFlags × ℕ)) (call : 
 
   -- with the touches that count
   pub plans : (p : Planned) → IsPlan sees.state pid call (is_some within) p → DirectoriesAreKept sees
-      → record { answer : p.answer ≡ reply (seen_by (moment f.log) pid) pid call; plans : Plans f pid within call p.touches.items p.edits.items }
+      → record { answer : p.answer ≡ reply (seen_by (moment f.log) pid) pid call; plans : Plans f pid within call p.touches p.edits.items }
   plans p is used =
       let seen = slot_views f asks.holds pid in
       let goes = (views_may_be_loose 0 (setup_of f.log) (limit_of f.log) f.log.entries asks.holds.legal pid).goes_on call in
@@ -127,7 +127,7 @@ module _ (f : Fields) (pid : ℕ) (within : Option (BeginFlags × ℕ)) (call : 
 -- The same of a call of a process in no transaction, without its touches.
 module _ (f : Fields) (pid : ℕ) (call : Call) (asks : Calls f pid None call) where
   pub plans_alone : (p : Planned) → IsPlanWithoutTouches (sees f pid None call asks).state pid call p → DirectoriesAreKept (sees f pid None call asks)
-      → record { answer : p.answer ≡ reply (seen_by (moment f.log) pid) pid call; plans : Prepares f pid None call p.touches.items p.edits.items }
+      → record { answer : p.answer ≡ reply (seen_by (moment f.log) pid) pid call; plans : Prepares f pid None call p.touches p.edits.items }
   plans_alone p is used =
       let seen = slot_views f asks.holds pid in
       let goes = (views_may_be_loose 0 (setup_of f.log) (limit_of f.log) f.log.entries asks.holds.legal pid).goes_on call in

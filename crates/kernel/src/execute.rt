@@ -27,8 +27,9 @@ use crate::state::{Live, State, add_entry, end_transaction, enter};
 use calls::{Plan, plan_of, plan_without_touches};
 use contention::{Doomed, Twice, Verdict};
 use heap::Heap;
-use ids::{Answer, Call, Cause, Edit, Errno, Nums, Op, Pid, Pids, Reply, Touch, Why};
+use ids::{Answer, Call, Cause, Edit, Errno, Nums, Op, Pid, Pids, Reply, Why};
 use std::alloc::AllocError;
+use touches::Touches;
 
 /// The live transaction that a process is in, if it is in one.
 type Within = Option<Live>;
@@ -79,7 +80,7 @@ fn plan_for(s: &State, pid: Pid, within: &Within, call: &Call) -> Result<Plan, A
     ensures answer { IfOk result (λ p.
         p.answer ≡ reply (seen_by (moment s.now.history) pid) pid call.now) }
     ensures plans { IfOk result (λ p.
-        Plans (fields s.now) pid within.now call.now p.touches.items p.edits.items) }
+        Plans (fields s.now) pid within.now call.now p.touches p.edits.items) }
 {
     let view = s.transactions.view(pid);
     plan_of(s.heap, &view, pid, call, within.is_some())
@@ -91,7 +92,7 @@ fn plan_alone(s: &State, pid: Pid, call: &Call) -> Result<Plan, AllocError>
     ensures answer { IfOk result (λ p.
         p.answer ≡ reply (seen_by (moment s.now.history) pid) pid call.now) }
     ensures plans { IfOk result (λ p.
-        Prepares (fields s.now) pid None call.now p.touches.items p.edits.items) }
+        Prepares (fields s.now) pid None call.now p.touches p.edits.items) }
 {
     let view = s.transactions.view(pid);
     plan_without_touches(s.heap, &view, pid, call)
@@ -105,7 +106,7 @@ fn judged_alone(s: &State, pid: Pid, call: &Call) -> Result<(Plan, Verdict), All
     ensures answer { IfOk result (λ p.
         p.0.answer ≡ reply (seen_by (moment s.now.history) pid) pid call.now) }
     ensures plans { IfOk result (λ p.
-        Prepares (fields s.now) pid None call.now p.0.touches.items p.0.edits.items) }
+        Prepares (fields s.now) pid None call.now p.0.touches p.0.edits.items) }
     ensures verdict { IfOk result (λ p. IsVerdict (moment s.now.history) pid
         (counted_touches (moment s.now.history) pid call.now) p.1) }
 {
@@ -119,7 +120,7 @@ fn judged(s: &State, pid: Pid, within: &Within, call: &Call) -> Result<(Plan, Ve
     ensures answer { IfOk result (λ p.
         p.0.answer ≡ reply (seen_by (moment s.now.history) pid) pid call.now) }
     ensures plans { IfOk result (λ p.
-        Prepares (fields s.now) pid within.now call.now p.0.touches.items p.0.edits.items) }
+        Prepares (fields s.now) pid within.now call.now p.0.touches p.0.edits.items) }
     ensures verdict { IfOk result (λ p. IsVerdict (moment s.now.history) pid
         (counted_touches (moment s.now.history) pid call.now) p.1) }
 {
@@ -140,12 +141,12 @@ fn judged_by_touches(
     ensures answer { IfOk result (λ p.
         p.0.answer ≡ reply (seen_by (moment s.now.history) pid) pid call.now) }
     ensures plans { IfOk result (λ p.
-        Plans (fields s.now) pid within.now call.now p.0.touches.items p.0.edits.items) }
+        Plans (fields s.now) pid within.now call.now p.0.touches p.0.edits.items) }
     ensures verdict { IfOk result (λ p. IsVerdict (moment s.now.history) pid
         (counted_touches (moment s.now.history) pid call.now) p.1) }
 {
     let plan = plan_for(s, pid, within, call)?;
-    match s.contenders.verdict(s.heap, pid, plan.touches.as_slice()) {
+    match s.contenders.verdict(s.heap, pid, &plan.touches) {
         Ok(verdict) => Ok((plan, verdict)),
         Err(refused) => {
             drop(plan);
@@ -238,15 +239,15 @@ fn change(
     pid: Pid,
     within: &Within,
     call: &Call,
-    touches: Vec<Touch, Heap>,
+    touches: Touches,
     edits: Vec<Edit, Heap>,
 ) -> Result<Nums, AllocError>
     requires asks { Calls (fields s.old) pid within.now call.now }
-    requires plans { Prepares (fields s.old) pid within.now call.now touches.items edits.items }
+    requires plans { Prepares (fields s.old) pid within.now call.now touches edits.items }
     ensures new { IfOk result (AreNew s.old.transactions edits.entry.items) }
     ensures moves { IfOk result (λ chosen.
         Moves (with_born within.now pid edits.entry.items (fields s.old)) (fields s.new) pid
-        (part_with within.now (effect chosen edits.entry.items) touches.entry.items
+        (part_with within.now (effect chosen edits.entry.items) touches
         (part_at (fields s.old) pid))
         (state_with within.now (effect chosen edits.entry.items)
         s.old.transactions.stable.state) []) }
@@ -307,7 +308,7 @@ fn take(
 ) -> Result<Reply, AllocError>
     requires asks { Calls (fields s.old) pid within call }
     requires answer { plan.answer ≡ reply (seen_by (moment s.old.history) pid) pid call }
-    requires plans { Prepares (fields s.old) pid within call plan.touches.items plan.edits.items }
+    requires plans { Prepares (fields s.old) pid within call plan.touches plan.edits.items }
     requires wins { IsVerdict (moment s.old.history) pid
         (counted_touches (moment s.old.history) pid call) (Verdict.Go doomed) }
     ensures ok { IfOk result (Does (fields s.old) (fields s.new) pid (entries.Do call)) }

@@ -50,6 +50,8 @@ mod of_pipe_shadow;
 #[cfg(test)]
 mod of_records;
 #[cfg(test)]
+mod of_runs;
+#[cfg(test)]
 mod of_shadow;
 #[cfg(test)]
 mod of_store;

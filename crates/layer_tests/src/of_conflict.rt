@@ -2,11 +2,12 @@
 ghost use Rattle.std.specs.Prelude.{◌≡◌, ◌<◌, length};
 
 use crate::refused::is_refused;
-use conflict::{Clash, clashes};
+use conflict::{Clash, FirstClashes, first_clashes};
 use heap::Heap;
 use ids::{Aspect, Name, Num, Pid, Touch};
 use records::{Records, compare_touches};
 use std::process::Abort;
+use touches::{Touched, Touches};
 
 fn read(aspect: Aspect) -> Touch {
     Touch {
@@ -51,13 +52,15 @@ fn add(rt: &impl Abort, heap: Heap, records: &mut Records, pid: Pid, touch: Touc
     requires { pid < length records.old }
     ensures { length records.new ≡ length records.old }
 {
-    let touches = Vec::from_array(heap, [touch]).expect(rt, "memory");
-    records.add(pid, touches).expect(rt, "memory");
+    let touches = Vec::from_array(heap, [Touched::One(touch)]).expect(rt, "memory");
+    records
+        .add(pid, Touches::from_vec(touches))
+        .expect(rt, "memory");
 }
 
-/// The clashes of process 1 with what the others have touched.
-fn found(rt: &impl Abort, heap: Heap, records: &Records, touches: &[Touch]) -> Vec<Clash, Heap> {
-    clashes(heap, records, Pid(1), touches).expect(rt, "memory")
+/// The first clash of process 1 with each of the others.
+fn found(rt: &impl Abort, heap: Heap, records: &Records, touches: &[Touched]) -> FirstClashes {
+    first_clashes(heap, records, Pid(1), touches).expect(rt, "memory")
 }
 
 /// Whether a clash is with this touch of this process.
@@ -85,25 +88,23 @@ fn touched(rt: &impl Abort, heap: Heap) -> Records
     records
 }
 
-fn asked() -> [Touch; 3] {
+fn asked() -> [Touched; 3] {
     [
-        write(Aspect::Links(Num(2))),
-        read(Aspect::Ends(Num(2))),
-        write(Aspect::Size(Num(2))),
+        Touched::One(read(Aspect::Ends(Num(2)))),
+        Touched::One(write(Aspect::Size(Num(2)))),
+        Touched::One(write(Aspect::Links(Num(2)))),
     ]
 }
 
-fn wanted() -> [(Pid, Touch); 4] {
+fn wanted() -> [(Pid, Touch); 2] {
     [
-        (Pid(2), read(Aspect::Links(Num(2)))),
         (Pid(2), write(Aspect::Size(Num(2)))),
-        (Pid(2), read(Aspect::Size(Num(2)))),
         (Pid(3), write(Aspect::Size(Num(2)))),
     ]
 }
 
 #[test]
-fn clashes_stand_by_touch_and_process_and_writes_first(rt: HostRuntime) {
+fn the_first_clashes_stand_by_touch_and_process_and_are_with_writes_first(rt: HostRuntime) {
     let heap = heap::open(rt.alloc()).expect(&rt, "memory");
     let records = touched(&rt, heap);
     let touches = asked();
@@ -127,11 +128,11 @@ fn a_refused_copy_says_so(rt: HostRuntime) {
         Pid(2),
         entry(&rt, heap, 1, "a", true),
     );
-    let lists = [read(Aspect::Names(Num(1)))];
+    let lists = [Touched::One(read(Aspect::Names(Num(1))))];
     heap.refuse(1);
-    let first = is_refused(clashes(heap, &records, Pid(1), &lists));
+    let first = is_refused(first_clashes(heap, &records, Pid(1), &lists));
     heap.refuse(0);
-    let second = is_refused(clashes(heap, &records, Pid(1), &lists));
+    let second = is_refused(first_clashes(heap, &records, Pid(1), &lists));
     drop(lists);
     drop(records);
     assert_eq!(rt; [first, second], [true, false]);
@@ -142,10 +143,10 @@ fn where_none_clashes_no_memory_is_taken(rt: HostRuntime) {
     let heap = heap::open(rt.alloc()).expect(&rt, "memory");
     let mut records = processes(&rt, heap);
     add(&rt, heap, &mut records, Pid(2), read(Aspect::Size(Num(1))));
-    let touches = [read(Aspect::Size(Num(1)))];
+    let touches = [Touched::One(read(Aspect::Size(Num(1))))];
     heap.refuse(1);
     let all = found(&rt, heap, &records, &touches);
-    let told = [all.len() as u64, heap.made()];
+    let told = [all.as_slice().len() as u64, heap.made()];
     drop(all);
     drop(touches);
     drop(records);

@@ -4,16 +4,17 @@ ghost use Rattle.std.specs.Prelude.{◌≡◌, ◌<◌, length};
 use crate::refused::is_done;
 use contention::{Contenders, Verdict};
 use heap::Heap;
-use ids::{Age, Aspect, Num, Pid, Priority, Touch};
+use ids::{Age, Aspect, Num, Pid, Priority};
 use std::process::Abort;
+use touches::Touches;
 
 /// The one touch of all these tests, on the length of a file.
-fn touches(rt: &impl Abort, heap: Heap, write: bool) -> Vec<Touch, Heap> {
-    let touch = Touch {
-        aspect: Aspect::Size(Num(3)),
-        write,
-    };
-    Vec::from_array(heap, [touch]).expect(rt, "memory")
+fn touches(rt: &impl Abort, heap: Heap, write: bool) -> Touches {
+    let mut touches = Touches::new(heap);
+    touches
+        .push(Aspect::Size(Num(3)), write)
+        .expect(rt, "memory");
+    touches
 }
 
 fn level(rt: &impl Abort, number: u8) -> Priority {
@@ -33,7 +34,7 @@ fn doomed_by(rt: &impl Abort, heap: Heap, all: &Contenders, write: bool) -> Opti
 {
     let touches = touches(rt, heap, write);
     let verdict = all
-        .verdict(heap, Pid(1), touches.as_slice())
+        .verdict(heap, Pid(1), &touches)
         .expect(rt, "memory");
     let count = doomed_count(&verdict);
     drop(verdict);

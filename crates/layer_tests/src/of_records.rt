@@ -6,6 +6,7 @@ use heap::Heap;
 use ids::{Aspect, Name, Num, Pid, Touch};
 use records::Records;
 use std::process::Abort;
+use touches::{Touched, Touches};
 
 /// A touch of the entry of a name in directory 1.
 fn entry(rt: &impl Abort, heap: Heap, name: &str, write: bool) -> Touch {
@@ -27,8 +28,10 @@ fn add(rt: &impl Abort, heap: Heap, records: &mut Records, pid: Pid, touch: Touc
     requires { pid < length records.old }
     ensures { length records.new ≡ length records.old }
 {
-    let touches = Vec::from_array(heap, [touch]).expect(rt, "memory");
-    records.add(pid, touches).expect(rt, "memory");
+    let touches = Vec::from_array(heap, [Touched::One(touch)]).expect(rt, "memory");
+    records
+        .add(pid, Touches::from_vec(touches))
+        .expect(rt, "memory");
 }
 
 /// Processes 1 to 3: the first wrote `b`, the second read `c`, and the third wrote `a`.
@@ -60,9 +63,10 @@ fn met_by_a_listing(rt: &impl Abort, records: &Records) -> usize {
 fn a_repeated_touch_is_kept_once_and_takes_no_memory(rt: HostRuntime) {
     let heap = heap::open(rt.alloc()).expect(&rt, "memory");
     let mut records = three_processes(&rt, heap);
-    let again = Vec::from_array(heap, [entry(&rt, heap, "b", true)]).expect(&rt, "memory");
+    let again = Touched::One(entry(&rt, heap, "b", true));
+    let again = Vec::from_array(heap, [again]).expect(&rt, "memory");
     heap.refuse(1);
-    assert!(rt; is_done(records.add(Pid(1), again)));
+    assert!(rt; is_done(records.add(Pid(1), Touches::from_vec(again))));
     assert_eq!(rt; heap.made(), 0);
     assert_eq!(rt; records.count(Pid(1)), 1);
     records.release(Pid(1));
@@ -80,9 +84,10 @@ fn is_addition_refused(rt: &impl Abort, heap: Heap, records: &mut Records, numbe
     // These names do not stand in place, so their copies ask for memory too.
     let first = entry(rt, heap, "d234567890123456789012345", true);
     let second = entry(rt, heap, "e234567890123456789012345", true);
-    let more = Vec::from_array(heap, [first, second]).expect(rt, "memory");
+    let more =
+        Vec::from_array(heap, [Touched::One(first), Touched::One(second)]).expect(rt, "memory");
     heap.refuse(number);
-    let added = is_done(records.add(Pid(2), more));
+    let added = is_done(records.add(Pid(2), Touches::from_vec(more)));
     heap.refuse(0);
     !added
 }

@@ -12,19 +12,23 @@ ghost use Rattle.list_modes.specs.Holding.{held_of};
 ghost use Rattle.model.specs.Steps.{Touch as OfModel};
 ghost use Rattle.records.specs.Touches.{touched_by, with_touches};
 ghost use Rattle.marked_records.specs.Marks.{SetsMarks, marks_at, mode_by_touches};
-ghost use Rattle.marked_records.specs.Marks.{others_write, looks_at};
+ghost use Rattle.marked_records.specs.Marks.{others_write};
 ghost use Rattle.conflict.specs.Clashing.{AreClashes};
+ghost use Rattle.conflict.specs.Firsts.{AreFirstsOf, AreFirstClashes};
+ghost use Rattle.conflict.specs.declared.found.Clash.{Clash};
+ghost use Rattle.touches.specs.Expanded.{expanded, touches_of};
 
 mod marking;
 
-use conflict::{Clash, clashes};
+use conflict::FirstClashes;
 use heap::Heap;
 use ids::{Aspect, ListMode, Num, Pid, Touch};
 use list_modes::Holders;
-use marking::{mark, unmark_behind};
+use marking::{entries_of, mark_one, unmark_behind};
 use records::Records;
 use std::alloc::AllocError;
 use std::marker::Model;
+use touches::{Touched, Touches};
 
 /// What each process's live transaction touched, and what that marks at directories. Contracts see
 /// the touches of each process, each once.
@@ -59,17 +63,18 @@ impl Model for MarkedRecords {
 fn mark_behind(
     holders: &mut Holders,
     pid: Pid,
-    touches: &[Touch],
-    count: usize,
+    touches: &[Touched],
+    count: u128,
 ) -> Result<(), AllocError>
-    requires { (d : ℕ) → held_of holders.old pid d ≡ marks_at d (take count touches.now) }
+    requires { (d : ℕ) → held_of holders.old pid d
+        ≡ marks_at d (take count (expanded touches.now)) }
     ensures ok { OnOk result (SetsMarks holders.old holders.new pid
-        (λ d. marks_at d touches.now)) }
+        (λ d. marks_at d (expanded touches.now))) }
     ensures err { OnErr result (SetsMarks holders.old holders.new pid
-        (λ d. marks_at d (take count touches.now))) }
+        (λ d. marks_at d (take count (expanded touches.now)))) }
 {
-    for i in count..touches.len() {
-        match mark(holders, pid, &touches[i]) {
+    for i in entries_of(touches, count)..touches.len() {
+        match mark_one(holders, pid, &touches[i]) {
             Ok(()) => {}
             Err(refused) => {
                 unmark_behind(holders, pid, touches, count);
@@ -117,7 +122,7 @@ impl MarkedRecords {
     }
 
     /// How many touches a process has, each counted once.
-    pub fn count(&self, pid: Pid) -> usize
+    pub fn count(&self, pid: Pid) -> u128
         requires { pid < length self.now }
         ensures { result ≡ length (touched_by self.now pid) }
     {
@@ -125,10 +130,10 @@ impl MarkedRecords {
     }
 
     /// A process touches these too. Refused memory changes nothing.
-    pub fn add(&mut self, pid: Pid, touches: Vec<Touch, Heap>) -> Result<(), AllocError>
+    pub fn add(&mut self, pid: Pid, touches: Touches) -> Result<(), AllocError>
         requires { pid < length self.old }
         ensures ok { OnOk result (self.new
-            ≡ set self.old pid (with_touches (touched_by self.old pid) touches.entry.items)) }
+            ≡ set self.old pid (with_touches (touched_by self.old pid) touches)) }
         ensures err { OnErr result (self.new ≡ self.old) }
     {
         let before = self.records.count(pid);
@@ -143,7 +148,7 @@ impl MarkedRecords {
     }
 
     /// A process's touches behind the first so many are forgotten. It takes no memory.
-    pub fn keep_first(&mut self, pid: Pid, count: usize)
+    pub fn keep_first(&mut self, pid: Pid, count: u128)
         requires { pid < length self.old }
         ensures { self.new ≡ set self.old pid (take count (touched_by self.old pid)) }
     {
@@ -169,32 +174,33 @@ impl MarkedRecords {
 
     // Whether a touch may clash with one of another process: where no other process writes an entry
     // of a directory, a look at its names does not.
-    fn may_clash(&self, caller: Pid, touch: &Touch) -> bool
-        ensures { result ≡ not (looks_at (λ d. not (others_write self.now caller d))
-            touch.now.aspect touch.now.write) }
+    fn may_clash(&self, caller: Pid, touched: &Touched) -> bool
+        ensures { result ≡ false → AreClashes self.now caller (touches_of touched.now) [] }
     {
-        match (&touch.aspect, touch.write) {
-            (Aspect::Names(dir), false) => self.others_write(caller, *dir),
+        match touched {
+            Touched::One(Touch {
+                aspect: Aspect::Names(dir),
+                write: false,
+            }) => self.others_write(caller, *dir),
             _ => true,
         }
     }
 
-    // All clashes of one of these touches.
-    fn clashes_of(
+    // The clashes of these touches, with those that were not met before.
+    fn add_clashes(
         &self,
-        heap: Heap,
         caller: Pid,
-        touches: &[Touch],
-        i: usize,
-    ) -> Result<Vec<Clash, Heap>, AllocError>
-        requires { i < length touches.now }
-        ensures { IfOk result (λ own. (t : OfModel) → t ≡ get_or touches.now i t
-            → AreClashes self.now caller (t ∷ []) own.items) }
+        touched: &Touched,
+        found: &mut FirstClashes,
+    ) -> Result<(), AllocError>
+        ensures { OnOk result ((own : List Clash)
+            × AreClashes self.now caller (touches_of touched.now) own
+            × AreFirstsOf (found.old ++ own) found.new) }
     {
-        if self.may_clash(caller, &touches[i]) {
-            clashes(heap, &self.records, caller, &touches[i..i + 1])
+        if self.may_clash(caller, touched) {
+            found.add(&self.records, caller, touched)
         } else {
-            Ok(Vec::new(heap))
+            Ok(())
         }
     }
 
@@ -206,25 +212,24 @@ impl MarkedRecords {
         self.records.others_touched(caller)
     }
 
-    /// All clashes of these touches of a process with what others touched, in order. Where no other
-    /// process has touched anything, it takes no memory and as many steps for any number of touches.
-    /// It is not asked about looks at the names of directories of which no other process writes an
-    /// entry. Refused memory is an error.
-    pub fn clashes(
+    /// Of all clashes of these touches of a process with what others touched the first with each
+    /// process, in order. Where no other process has touched anything, it takes no memory and as many
+    /// steps for any number of touches. It is not asked about looks at the names of directories of
+    /// which no other process writes an entry. Refused memory is an error.
+    pub fn first_clashes(
         &self,
         heap: Heap,
         caller: Pid,
-        touches: &[Touch],
-    ) -> Result<Vec<Clash, Heap>, AllocError>
-        ensures { IfOk result (λ found. AreClashes self.now caller touches.now found.items) }
+        touches: &Touches,
+    ) -> Result<FirstClashes, AllocError>
+        ensures { IfOk result (λ found. AreFirstClashes self.now caller touches.now found) }
     {
+        let mut found = FirstClashes::new(heap);
         if !self.records.others_touched(caller) {
-            return Ok(Vec::new(heap));
+            return Ok(found);
         }
-        let mut found = Vec::new(heap);
-        for i in 0..touches.len() {
-            let mut own = self.clashes_of(heap, caller, touches, i)?;
-            found.append(&mut own)?;
+        for touched in touches.as_slice() {
+            self.add_clashes(caller, touched, &mut found)?;
         }
         Ok(found)
     }

@@ -20,7 +20,7 @@ grown_by : (held : List Touch) (t : Touch) (b : Bool) → length (if b then held
 grown_by held t true = omega arith
 grown_by held t false = omega (arith, length_push held t)
 
-no_longer : (held ts : List Touch) → length (with_touches held ts) ≤ length held + length ts
+pub no_longer : (held ts : List Touch) → length (with_touches held ts) ≤ length held + length ts
 no_longer held [] = omega arith
 no_longer held (t ∷ ts) =
     let a = no_longer (with_touch held t) ts in

@@ -32,7 +32,7 @@ use Rattle.records.proofs.Once.{is_mark, is_found, found_in, found_with, once_wi
 pub found_of : (caller : ℕ) (t : Touch) (m : Mark) (ps : List ℕ) → is_found m (marks_of caller t ps) ≡ (not (m.pid == caller) && (is_touch t m.touch && among m.pid ps))
 found_of caller t m ps = found_in m (λ k. not (k.pid == caller)) (marks_with t ps) ∙ ap (λ b. not (m.pid == caller) && b) (found_with m t ps)
 
-once_of : (caller : ℕ) (t : Touch) (ps : List ℕ) → AreDistinct ps → Once (marks_of caller t ps)
+pub once_of : (caller : ℕ) (t : Touch) (ps : List ℕ) → AreDistinct ps → Once (marks_of caller t ps)
 once_of caller t ps once = once_filter (λ k. not (k.pid == caller)) (marks_with t ps) (once_with t ps once)
 
 same_touch : (t : Touch) (m : Mark) (s : Index) (b : Bool) → is_touch t m.touch ≡ b → (b && among m.pid (users_on s t)) ≡ (b && holds s m)

@@ -23,16 +23,16 @@ use Rattle.records.proofs.Exact.{touch_from_tied, touch_parts, aspect_is}
 use Rattle.records.proofs.Entries.{on_touch, on_entries, once_on, once_entries}
 
 -- a clash by names
-abbrev by_names : Aspect → Bool → Aspect → Bool → Bool
+abbrev pub by_names : Aspect → Bool → Aspect → Bool → Bool
 by_names (Entry d x) true (Names e) false = d == e
 by_names (Names d) false (Entry e x) true = d == e
 by_names _ _ _ _ = false
 
-or_none : (b : Bool) → (b || false) ≡ b
+pub or_none : (b : Bool) → (b || false) ≡ b
 or_none true = refl
 or_none false = refl
 
-either_way : (a : Aspect) (w : Bool) (b : Aspect) (v : Bool) → (names_against a w b v || names_against b v a w) ≡ by_names a w b v
+pub either_way : (a : Aspect) (w : Bool) (b : Aspect) (v : Bool) → (names_against a w b v || names_against b v a w) ≡ by_names a w b v
 either_way (Entry d x) true (Names e) false = nat_eq_equiv.symm e d
 either_way (Entry d x) true (Names e) true = refl
 either_way (Entry d x) false (Names e) true = refl
@@ -77,13 +77,13 @@ found_by_names caller (Entry d x) true m s listed = on_touch caller (touch_on (N
 found_by_names caller (Names d) false m s listed = on_entries caller d m s listed ∙ ap (λ b. not (m.pid == caller) && (b && holds s m)) (entry_written d m.touch.aspect m.touch.write)
 found_by_names caller a w m s listed = sym (and_false (not (m.pid == caller)))
 
-joined : (c a b h : Bool) → ((c && (a && h)) || (c && (b && h))) ≡ (c && ((a || b) && h))
+pub joined : (c a b h : Bool) → ((c && (a && h)) || (c && (b && h))) ≡ (c && ((a || b) && h))
 joined true true true h = elim h as (λ h. (h || h) ≡ h) [ true ↦ refl | false ↦ refl ]
 joined true true false h = or_none h
 joined true false b h = refl
 joined false a b h = refl
 
-read_or_written : (s v : Bool) → ((s && v) || (s && not v)) ≡ (s && true)
+pub read_or_written : (s v : Bool) → ((s && v) || (s && not v)) ≡ (s && true)
 read_or_written true true = refl
 read_or_written true false = refl
 read_or_written false v = refl
@@ -106,17 +106,17 @@ found_clashing caller t m s listed =
     ∙ ap (λ b. not (m.pid == caller) && (((same_aspect t.aspect m.touch.aspect && (t.write || m.touch.write)) || b) && holds s m)) (sym (either_way t.aspect t.write m.touch.aspect m.touch.write))
 
 -- a mark that is found passes each of the tests
-passed : (c a h : Bool) → (c && (a && h)) ≡ true → a ≡ true
+pub passed : (c a h : Bool) → (c && (a && h)) ≡ true → a ≡ true
 passed true true h e = refl
 passed true false h e = e
 passed false a h e = absurd (false≢true e)
 
-refused : (c a h : Bool) → a ≡ false → (c && (a && h)) ≡ false
+pub refused : (c a h : Bool) → a ≡ false → (c && (a && h)) ≡ false
 refused true true h e = absurd (false≢true (sym e))
 refused true false h e = refl
 refused false a h e = refl
 
-written_not_read : (a : Aspect) (u : Touch) → is_touch (touch_on a true) u ≡ true → is_touch (touch_on a false) u ≡ false
+pub written_not_read : (a : Aspect) (u : Touch) → is_touch (touch_on a true) u ≡ true → is_touch (touch_on a false) u ≡ false
 written_not_read a u h = ap (λ v. is_touch (touch_on a false) v) (sym (touch_from_tied (touch_on a true) u h)) ∙ touch_parts a false (touch_on a true) ∙ and_false (same_aspect a a)
 
 once_on_aspect : (caller : ℕ) (a : Aspect) (w : Bool) (s : Index) → ((u : Touch) → AreDistinct (users_on s u)) → Once (marks_on_aspect caller a w s)

@@ -134,7 +134,7 @@ indexed_back js ks s n o t p indexed e within none enters leaves =
     subst (λ x. IsIndexed x o) (set-set js p l (touched_by js p) ∙ set-get_or js p [] ∙ sym e)
     (indexed_taken (set js p l) n o t p (touched_by js p) (indexed_added js s n t p indexed within enters) long (get_or-set_same js p l [] within) none leaves)
 
-enrolled_same : (js : List (List Touch)) (q : ℕ) → touched_by (js ++ [] ∷ []) q ≡ touched_by js q
+pub enrolled_same : (js : List (List Touch)) (q : ℕ) → touched_by (js ++ [] ∷ []) q ≡ touched_by js q
 enrolled_same [] zero = refl
 enrolled_same [] (suc q) = refl
 enrolled_same (l ∷ js) zero = refl
@@ -154,7 +154,7 @@ shrunk_by js ks s indexed e = record {
 }
 
 -- the last journal apart from those before it
-last_apart : (js : List (List Touch)) → 0 < length js → js ≡ take (length js - 1) js ++ touched_by js (length js - 1) ∷ []
+pub last_apart : (js : List (List Touch)) → 0 < length js → js ≡ take (length js - 1) js ++ touched_by js (length js - 1) ∷ []
 last_apart js some =
     let e : length js ≡ (length js - 1) + 1 = omega arith in
     sym (take_all (length js) js (omega arith)) ∙ ap (λ n. take n js) e ∙ take_more js (length js - 1) [] (omega arith)

@@ -1,6 +1,7 @@
 -- Who clashes with a touch, and by which touches.
-use Rattle.std.specs.Prelude.{◌≡◌, ℕ, List, [], ◌∷◌, Bool, false, not, ◌&&◌, ◌==◌, ⊤}
+use Rattle.std.specs.Prelude.{◌≡◌, ℕ, suc, List, [], ◌∷◌, Bool, true, false, not, ◌&&◌, ◌==◌, ⊤}
 use Rattle.std.specs.List.{list_any}
+use Rattle.model.specs.Aspects.{Block}
 use Rattle.model.specs.Steps.{Touch}
 use Rattle.model.specs.Clashes.{clash, has_touch}
 use Rattle.records.specs.Touches.{touched_by}
@@ -22,3 +23,9 @@ pub record AreHolders (all : List (List Touch)) (pid : ℕ) (t : Touch) (found :
   pub exact : (q : ℕ) (u : Touch) → has_mark q u found
       ≡ (not (q == pid) && (clash t u && has_touch u.aspect u.write (touched_by all q)))
   pub once : AreEachOnce found
+
+-- who touched the block behind this one touched this one too, and in the same way
+abbrev pub GoesOn : List (List Touch) → ℕ → ℕ → Type 0
+GoesOn all file block = (q : ℕ) (write : Bool)
+    → has_touch (Block file (suc block)) write (touched_by all q) ≡ true
+    → has_touch (Block file block) write (touched_by all q) ≡ true

@@ -6,3 +6,6 @@ pub mod Groups
 pub mod Index
 pub mod Ranges
 pub mod Holders
+pub mod Rows
+pub mod Runs
+pub mod BlockMarks

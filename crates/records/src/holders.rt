@@ -14,7 +14,7 @@ use std::ops::Bound;
 
 type Found = Vec<Mark, Heap>;
 
-fn mark_on(aspect: &Aspect, write: bool, pid: Pid) -> Result<Mark, AllocError>
+pub fn mark_on(aspect: &Aspect, write: bool, pid: Pid) -> Result<Mark, AllocError>
     ensures { IfOk result (λ m. m ≡ mark_of pid (touch_on aspect.now write)) }
 {
     let aspect = aspect.try_clone()?;

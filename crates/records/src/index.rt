@@ -186,10 +186,11 @@ pub fn leave(index: &mut Index, pid: Pid, touch: &Touch)
     }
 }
 
-/// Whether the table of users has no more places than a small multiple of so many touches: to clear
-/// it takes as many steps as it has places, and these stay from when most aspects were used.
-pub fn is_filled_by(index: &Index, touches: usize) -> bool {
-    index.users.capacity() / 16 <= touches
+/// Whether the table of users has no more places than a small multiple of so many entries of a
+/// journal: to clear it takes as many steps as it has places, and these stay from when most aspects
+/// were used.
+pub fn is_filled_by(index: &Index, entries: usize) -> bool {
+    index.users.capacity() / 16 <= entries
 }
 
 /// Nobody uses any aspect any more. It takes no memory.

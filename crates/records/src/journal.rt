@@ -1,33 +1,216 @@
 // The touches of one process, each once.
-ghost use Rattle.std.specs.Prelude.{◌≡◌, ◌-◌, ◌++◌, take, ◌∷◌, [], false, length};
+ghost use Rattle.std.specs.Prelude.{◌≡◌, ◌+◌, ◌-◌, ◌≤◌, ◌<◌, ◌++◌, [], false, true, length};
 ghost use Rattle.std.specs.Prelude.{OnOk, OnErr, IfErr, IfSome, IfNone};
-ghost use Rattle.records.specs.Index.{has};
+ghost use Rattle.records.specs.Touches.{with_touches};
+ghost use Rattle.records.specs.Runs.{GoesOnBy, HaveTouches};
+ghost use Rattle.touches.specs.Expanded.{expanded, touches_of};
 
 use heap::Heap;
-use ids::Touch;
 use std::marker::Model;
+use touches::{Blocks, Touched};
 
-/// The touches of one process, each once, in the order in which they came.
+type Entries = Vec<Touched, Heap>;
+
+/// The touches of one process, each once, in the order in which they came. Blocks that came one
+/// behind the other stand together.
 pub struct Journal {
-    touches: Vec<Touch, Heap>,
+    entries: Entries,
+    /// How many touches there are.
+    count: u128,
 }
 
 impl Drop for Journal {
     fn drop(self) {
-        let Journal { touches: _ } = self;
+        let Journal {
+            entries: _,
+            count: _,
+        } = self;
     }
 }
 
 impl Model for Journal {
-    ghost use Rattle.std.specs.Prelude.{◌≡◌, List};
+    ghost use Rattle.std.specs.Prelude.{◌≡◌, List, length};
     ghost use Rattle.model.specs.Steps.{Touch};
+    ghost use Rattle.records.specs.Runs.{HaveTouches};
     ghost use Rattle.records.specs.Touches.{distinct};
+    ghost use Rattle.touches.specs.Expanded.{expanded};
 
     ghost Value = { List Touch };
 
-    ghost view = { λ j. j.touches.items };
+    ghost view = { λ j. expanded j.entries.items };
 
-    ghost invariant = { λ j. distinct j.touches.items ≡ j.touches.items };
+    ghost invariant = { λ j. (distinct (expanded j.entries.items) ≡ expanded j.entries.items)
+        × (j.count ≡ length (expanded j.entries.items)) × HaveTouches j.entries.items };
+}
+
+/// Whether these blocks stand right behind those.
+fn stand_behind(before: Blocks, blocks: Blocks) -> bool
+    ensures some { result ≡ true → 0 < before.count }
+    ensures file { result ≡ true → before.file ≡ blocks.file }
+    ensures write { result ≡ true → before.write ≡ blocks.write }
+    ensures first { result ≡ true → before.first + before.count ≡ blocks.first }
+{
+    if before.count == 0 || before.file != blocks.file || before.write != blocks.write {
+        return false;
+    }
+    before.first <= blocks.first && blocks.first - before.first == before.count
+}
+
+/// Blocks and those that stand right behind them, as one.
+fn joined(before: Blocks, blocks: Blocks) -> Option<Blocks>
+    ensures { IfSome result (λ both. touches_of (Touched.Blocks both)
+        ≡ touches_of (Touched.Blocks before) ++ touches_of (Touched.Blocks blocks)) }
+{
+    if !stand_behind(before, blocks) {
+        return None;
+    }
+    let count = before.count.checked_add(blocks.count)?;
+    Some(Blocks {
+        file: before.file,
+        first: before.first,
+        count,
+        write: before.write,
+    })
+}
+
+/// The same of an entry, which may be no blocks.
+fn joined_to(before: &Touched, blocks: Blocks) -> Option<Blocks>
+    ensures { IfSome result (λ both. touches_of (Touched.Blocks both)
+        ≡ touches_of before.now ++ touches_of (Touched.Blocks blocks)) }
+{
+    match before {
+        Touched::Blocks(before) => joined(*before, blocks),
+        Touched::One(_) => None,
+    }
+}
+
+/// Whether an entry goes on by these blocks.
+fn goes_on_by(before: &Touched, blocks: Blocks) -> bool
+    ensures { result ≡ true
+        → GoesOnBy (touches_of before.now) blocks.file blocks.first blocks.write }
+{
+    match before {
+        Touched::Blocks(before) => stand_behind(*before, blocks),
+        Touched::One(_) => false,
+    }
+}
+
+/// Whether the last entry goes on by these blocks.
+fn goes_on(entries: &[Touched], blocks: Blocks) -> bool
+    ensures { result ≡ true
+        → GoesOnBy (expanded entries.now) blocks.file blocks.first blocks.write }
+{
+    let count = entries.len();
+    if count == 0 {
+        return false;
+    }
+    goes_on_by(&entries[count - 1], blocks)
+}
+
+/// The last entry goes on by these blocks, and the answer is whether it does. It takes no memory.
+fn join_last(entries: &mut Entries, blocks: Blocks) -> bool
+    ensures yes { result ≡ true → expanded entries.new.items
+        ≡ expanded entries.old.items ++ touches_of (Touched.Blocks blocks) }
+    ensures no { result ≡ false → entries.new.items ≡ entries.old.items }
+    ensures any { HaveTouches entries.old.items → HaveTouches entries.new.items }
+{
+    let count = entries.len();
+    if count == 0 {
+        return false;
+    }
+    match joined_to(&entries[count - 1], blocks) {
+        Some(both) => {
+            entries[count - 1] = Touched::Blocks(both);
+            true
+        }
+        None => false,
+    }
+}
+
+/// An entry more at the end. Refused memory gives it back and changes nothing.
+fn push_entry(entries: &mut Entries, touched: Touched) -> Result<(), Touched>
+    ensures ok { OnOk result (expanded entries.new.items
+        ≡ expanded entries.old.items ++ touches_of touched) }
+    ensures back { IfErr result (λ t. t ≡ touched) }
+    ensures err { OnErr result (entries.new.items ≡ entries.old.items) }
+    ensures any { 0 < length (touches_of touched) → HaveTouches entries.old.items
+        → HaveTouches entries.new.items }
+{
+    if let Touched::Blocks(blocks) = &touched {
+        if join_last(entries, *blocks) {
+            return Ok(());
+        }
+    }
+    match entries.push(touched) {
+        Ok(()) => Ok(()),
+        Err(refused) => Err(refused.value),
+    }
+}
+
+/// Blocks without so many of the last, and these.
+fn cut(blocks: Blocks, gone: u32) -> (Blocks, Blocks)
+    requires some { 0 < gone }
+    requires fewer { gone < blocks.count }
+    ensures both { touches_of (Touched.Blocks blocks)
+        ≡ touches_of (Touched.Blocks result.0) ++ touches_of (Touched.Blocks result.1) }
+    ensures kept { result.0.count ≡ blocks.count - gone }
+    ensures gone { result.1.count ≡ gone }
+{
+    let kept = blocks.count - gone;
+    let before = Blocks {
+        file: blocks.file,
+        first: blocks.first,
+        count: kept,
+        write: blocks.write,
+    };
+    let behind = Blocks {
+        file: blocks.file,
+        first: blocks.first + kept,
+        count: gone,
+        write: blocks.write,
+    };
+    (before, behind)
+}
+
+/// Blocks, where they are more than so many.
+fn cut_by(touched: &Touched, most: u128) -> Option<Blocks>
+    requires { 0 < most }
+    ensures same { IfSome result (λ blocks. touched.now ≡ Touched.Blocks blocks) }
+    ensures more { IfSome result (λ blocks. most < blocks.count) }
+    ensures few { IfNone result (length (touches_of touched.now) ≤ most) }
+{
+    match touched {
+        Touched::Blocks(blocks) => {
+            if u128::from(blocks.count) > most {
+                Some(*blocks)
+            } else {
+                None
+            }
+        }
+        Touched::One(_) => None,
+    }
+}
+
+/// Takes the last entry away, or so many of its last blocks, where it has more. It takes no memory.
+fn pop_entry(entries: &mut Entries, most: u128) -> Option<Touched>
+    requires { 0 < most }
+    ensures some { IfSome result (λ t. expanded entries.old.items
+        ≡ expanded entries.new.items ++ touches_of t) }
+    ensures any { HaveTouches entries.old.items → IfSome result (λ t. 0 < length (touches_of t)) }
+    ensures left { HaveTouches entries.old.items → HaveTouches entries.new.items }
+    ensures few { IfSome result (λ t. length (touches_of t) ≤ most) }
+    ensures none { IfNone result (entries.old.items ≡ []) }
+{
+    let count = entries.len();
+    if count == 0 {
+        return None;
+    }
+    if let Some(blocks) = cut_by(&entries[count - 1], most) {
+        let (kept, gone) = cut(blocks, most as u32);
+        entries[count - 1] = Touched::Blocks(kept);
+        return Some(Touched::Blocks(gone));
+    }
+    entries.pop()
 }
 
 impl Journal {
@@ -36,51 +219,68 @@ impl Journal {
         ensures { result ≡ [] }
     {
         Journal {
-            touches: Vec::new(heap),
+            entries: Vec::new(heap),
+            count: 0,
         }
     }
 
     /// The touches, in order.
-    pub fn as_slice(&self) -> &[Touch]
-        ensures { result.now ≡ self.now }
+    pub fn as_slice(&self) -> &[Touched]
+        ensures { expanded result.now ≡ self.now }
     {
-        self.touches.as_slice()
+        self.entries.as_slice()
     }
 
     /// How many touches there are.
-    pub fn len(&self) -> usize
+    pub fn count(&self) -> u128
         ensures { result ≡ length self.now }
     {
-        self.touches.len()
+        self.count
     }
 
-    /// A touch that is not there yet, at the end. Refused memory gives it back and changes nothing.
-    pub fn push(&mut self, touch: Touch) -> Result<(), Touch>
-        requires { has touch self.old ≡ false }
-        ensures ok { OnOk result (self.new ≡ self.old ++ touch ∷ []) }
-        ensures back { IfErr result (λ t. t ≡ touch) }
+    /// Whether these blocks stand right behind those that came last.
+    pub fn goes_on(&self, blocks: Blocks) -> bool
+        ensures { result ≡ true → GoesOnBy self.now blocks.file blocks.first blocks.write }
+    {
+        goes_on(self.entries.as_slice(), blocks)
+    }
+
+    /// Touches that are not there yet, at the end. Refused memory gives them back and changes
+    /// nothing.
+    pub fn push(&mut self, touched: Touched) -> Result<(), Touched>
+        requires some { 0 < length (touches_of touched) }
+        requires new { with_touches self.old (touches_of touched) ≡ self.old ++ touches_of touched }
+        ensures ok { OnOk result (self.new ≡ self.old ++ touches_of touched) }
+        ensures back { IfErr result (λ t. t ≡ touched) }
         ensures err { OnErr result (self.new ≡ self.old) }
     {
-        match self.touches.push(touch) {
-            Ok(()) => Ok(()),
-            Err(refused) => Err(refused.value),
-        }
+        let more = u128::from(touched.count());
+        push_entry(&mut self.entries, touched)?;
+        self.count += more;
+        Ok(())
     }
 
-    /// Takes the last touch away. It takes no memory.
-    pub fn pop(&mut self) -> Option<Touch>
-        ensures some { IfSome result (λ t. self.old ≡ self.new ++ t ∷ []) }
-        ensures once { IfSome result (λ t. has t self.new ≡ false) }
-        ensures rest { self.new ≡ take (length self.old - 1) self.old }
+    /// Takes the last touches away, so many at most of those that stand together. It takes no
+    /// memory.
+    pub fn pop(&mut self, most: u128) -> Option<Touched>
+        requires { 0 < most }
+        ensures some { IfSome result (λ t. self.old ≡ self.new ++ touches_of t) }
+        ensures any { IfSome result (λ t. 0 < length (touches_of t)) }
+        ensures few { IfSome result (λ t. length (touches_of t) ≤ most) }
+        ensures new { IfSome result (λ t.
+            with_touches self.new (touches_of t) ≡ self.new ++ touches_of t) }
         ensures none { IfNone result (self.old ≡ []) }
     {
-        self.touches.pop()
+        let touched = pop_entry(&mut self.entries, most)?;
+        self.count -= u128::from(touched.count());
+        Some(touched)
     }
 
     /// Takes all touches away. It takes no memory.
     pub fn clear(&mut self)
         ensures { self.new ≡ [] }
     {
-        self.touches.clear();
+        self.entries.clear();
+        self.count = 0;
     }
 }

@@ -1,26 +1,36 @@
 // All touches of all live transactions.
-ghost use Rattle.std.specs.Prelude.{◌≡◌, ◌≢◌, ℕ, ◌-◌, ◌<◌, ◌++◌, ◌∷◌, [], false, length};
-ghost use Rattle.std.specs.Prelude.{take, set, IfOk, OnOk, OnErr};
-ghost use Rattle.records.specs.Holders.{AreHolders};
+ghost use Rattle.std.specs.Prelude.{◌≡◌, ◌≢◌, ℕ, ◌-◌, ◌<◌, ◌≤◌, ◌++◌, ◌∷◌, [], false, length};
+ghost use Rattle.std.specs.Prelude.{suc, List, take, set, IfOk, IfSome, IfNone, OnOk, OnErr};
+ghost use Rattle.records.specs.Holders.{AreHolders, GoesOn};
 ghost use Rattle.records.specs.Index.{IsIndexed, ListsWritten};
-ghost use Rattle.records.specs.Touches.{touched_by, with_touch, with_touches};
+ghost use Rattle.records.specs.Runs.{IsShorter};
+ghost use Rattle.records.specs.Touches.{touched_by, with_touches};
+ghost use Rattle.model.specs.Steps.{Touch as OfModel};
+ghost use Rattle.touches.specs.Expanded.{expanded, touches_of};
 
 use crate::holders::collect;
-use crate::index::{Index, clear, enter, is_filled_by, leave};
+use crate::block_holders::collect_users;
+use crate::index::{Index, clear, is_filled_by};
 use crate::journals::Journals;
 use crate::mark::Mark;
+use crate::noting::{leave_touched, note_touched};
+use crate::rows::{Rows, next_start, row_of};
 use heap::Heap;
-use ids::{Pid, Touch};
+use ids::{Aspect, Num, Pid, Touch};
 use std::alloc::AllocError;
-use std::collections::{BTreeSet, HashMap};
+use std::collections::{BTreeMap, BTreeSet, HashMap};
 use std::marker::Model;
+use touches::{Touched, Touches};
 
 /// What each process's live transaction touched. Contracts see the touches of each process, each
 /// once, in the order in which they first came.
 pub struct Records {
     heap: Heap,
     journals: Journals,
+    /// Who uses what is no block of a file.
     index: Index,
+    /// Who uses which blocks of files.
+    rows: Rows,
 }
 
 impl Drop for Records {
@@ -29,6 +39,7 @@ impl Drop for Records {
             heap: _,
             journals: _,
             index: _,
+            rows: _,
         } = self;
     }
 }
@@ -37,41 +48,14 @@ impl Model for Records {
     ghost use Rattle.std.specs.Prelude.{List};
     ghost use Rattle.model.specs.Steps.{Touch};
     ghost use Rattle.records.specs.Index.{IsIndexed, ListsWritten};
+    ghost use Rattle.records.specs.Rows.{all_without_blocks, places_of, AreRowsOf};
 
     ghost Value = { List (List Touch) };
 
     ghost view = { λ r. r.journals };
 
-    ghost invariant = { λ r. IsIndexed r.journals r.index × ListsWritten r.index };
-}
-
-/// A touch more of a process, with its use; one that it has already takes no memory. Refused memory
-/// changes nothing.
-fn note(
-    heap: Heap,
-    journals: &mut Journals,
-    index: &mut Index,
-    pid: Pid,
-    touch: Touch,
-) -> Result<(), AllocError>
-    requires within { pid < length journals.old }
-    requires indexed { IsIndexed journals.old index.old }
-    ensures ok { OnOk result (journals.new
-        ≡ set journals.old pid (with_touch (touched_by journals.old pid) touch)) }
-    ensures err { OnErr result (journals.new ≡ journals.old) }
-    ensures indexed { IsIndexed journals.new index.new }
-    ensures listed { ListsWritten index.old → ListsWritten index.new }
-{
-    if !enter(heap, index, pid, &touch)? {
-        return Ok(());
-    }
-    match journals.push(pid, touch) {
-        Ok(()) => Ok(()),
-        Err(touch) => {
-            leave(index, pid, &touch);
-            Err(AllocError)
-        }
-    }
+    ghost invariant = { λ r. IsIndexed (all_without_blocks r.journals) r.index
+        × ListsWritten r.index × AreRowsOf r.journals (places_of r.rows) };
 }
 
 impl Records {
@@ -86,6 +70,7 @@ impl Records {
                 users: HashMap::new(heap),
                 written: BTreeSet::new(heap),
             },
+            rows: BTreeMap::new(heap),
         }
     }
 
@@ -109,14 +94,14 @@ impl Records {
 
     /// What a process touched, each once, in the order in which they first came; nothing for one
     /// that is not there.
-    pub fn touches(&self, pid: Pid) -> &[Touch]
-        ensures { result.now ≡ touched_by self.now pid }
+    pub fn touches(&self, pid: Pid) -> &[Touched]
+        ensures { expanded result.now ≡ touched_by self.now pid }
     {
         self.journals.touches(pid)
     }
 
     /// How many touches a process has, each counted once.
-    pub fn count(&self, pid: Pid) -> usize
+    pub fn count(&self, pid: Pid) -> u128
         requires { pid < length self.now }
         ensures { result ≡ length (touched_by self.now pid) }
     {
@@ -139,38 +124,68 @@ impl Records {
     pub fn holders(&self, caller: Pid, touch: &Touch) -> Result<Vec<Mark, Heap>, AllocError>
         ensures { IfOk result (λ found. AreHolders self.now caller touch.now found.items) }
     {
-        collect(self.heap, &self.index, caller, touch)
+        match &touch.aspect {
+            Aspect::Block(file, block) => {
+                let row = row_of(&self.rows, *file, *block);
+                collect_users(self.heap, row, caller, touch, *block)
+            }
+            _ => collect(self.heap, &self.index, caller, touch),
+        }
     }
 
-    /// A touch more of a process, unless it has it already. Refused memory changes nothing.
-    fn add_one(&mut self, pid: Pid, touch: Touch) -> Result<(), AllocError>
+    /// The first block behind one of a file, up to a last one, at which somebody's use begins: of
+    /// the blocks before it each user uses the block before it too. It takes no memory.
+    pub fn next_start(&self, file: Num, block: u32, last: u32) -> Option<u32>
+        requires { block ≤ last }
+        ensures behind { IfSome result (λ next. block < next) }
+        ensures within { IfSome result (λ next. next ≤ last) }
+        ensures some { IfSome result (λ next. (b : ℕ) → block ≤ b → suc b < next
+            → GoesOn self.now file b) }
+        ensures none { IfNone result ((b : ℕ) → block ≤ b → suc b ≤ last
+            → GoesOn self.now file b) }
+    {
+        next_start(&self.rows, file, block, last)
+    }
+
+    /// Touches more of a process, but those that it has already. Refused memory may leave some of
+    /// them.
+    fn add_one(&mut self, pid: Pid, touched: Touched) -> Result<(), AllocError>
         requires { pid < length self.old }
         ensures ok { OnOk result (self.new
-            ≡ set self.old pid (with_touch (touched_by self.old pid) touch)) }
-        ensures err { OnErr result (self.new ≡ self.old) }
+            ≡ set self.old pid (with_touches (touched_by self.old pid) (touches_of touched))) }
+        ensures some { (ts : List OfModel) × (self.new
+            ≡ set self.old pid (with_touches (touched_by self.old pid) ts)) }
     {
-        note(self.heap, &mut self.journals, &mut self.index, pid, touch)
+        note_touched(
+            self.heap,
+            &mut self.journals,
+            &mut self.index,
+            &mut self.rows,
+            pid,
+            touched,
+        )
     }
 
-    /// The last touch of a process is forgotten. It takes no memory.
-    fn forget_last(&mut self, pid: Pid)
+    /// The last touches of a process are forgotten, so many at most of those that stand together.
+    /// It takes no memory.
+    fn forget_last(&mut self, pid: Pid, most: u128)
         requires within { pid < length self.old }
+        requires most { 0 < most }
         requires some { 0 < length (touched_by self.old pid) }
-        ensures { self.new ≡ set self.old pid
-            (take (length (touched_by self.old pid) - 1) (touched_by self.old pid)) }
+        ensures { IsShorter self.old self.new pid most }
     {
-        let touch = self.journals.pop(pid);
-        leave(&mut self.index, pid, &touch);
+        let touched = self.journals.pop(pid, most);
+        leave_touched(&mut self.index, &mut self.rows, pid, &touched);
     }
 
     /// A process's touches behind the first so many are forgotten. It takes no memory, and as many
-    /// steps as touches are forgotten.
-    pub fn keep_first(&mut self, pid: Pid, count: usize)
+    /// steps as entries of its journal and rows of blocks are met.
+    pub fn keep_first(&mut self, pid: Pid, count: u128)
         requires { pid < length self.old }
         ensures { self.new ≡ set self.old pid (take count (touched_by self.old pid)) }
     {
         while self.count(pid) > count {
-            self.forget_last(pid);
+            self.forget_last(pid, self.count(pid) - count);
         }
     }
 
@@ -183,6 +198,7 @@ impl Records {
     {
         self.journals.clear(pid);
         clear(&mut self.index);
+        self.rows.clear();
     }
 
     /// A process's touches are forgotten. It takes no memory, and as many steps as the process has
@@ -191,7 +207,7 @@ impl Records {
         requires { pid < length self.old }
         ensures { self.new ≡ set self.old pid [] }
     {
-        if !self.others_touched(pid) && is_filled_by(&self.index, self.count(pid)) {
+        if !self.others_touched(pid) && is_filled_by(&self.index, self.journals.entries(pid)) {
             self.forget_all(pid);
         } else {
             self.keep_first(pid, 0);
@@ -200,15 +216,15 @@ impl Records {
 
     /// A process touches these too. One that it has already takes no memory. Refused memory changes
     /// nothing.
-    pub fn add(&mut self, pid: Pid, touches: Vec<Touch, Heap>) -> Result<(), AllocError>
+    pub fn add(&mut self, pid: Pid, touches: Touches) -> Result<(), AllocError>
         requires { pid < length self.old }
         ensures ok { OnOk result (self.new
-            ≡ set self.old pid (with_touches (touched_by self.old pid) touches.entry.items)) }
+            ≡ set self.old pid (with_touches (touched_by self.old pid) touches)) }
         ensures err { OnErr result (self.new ≡ self.old) }
     {
         let before = self.count(pid);
-        for touch in touches {
-            match self.add_one(pid, touch) {
+        for touched in touches.into_vec() {
+            match self.add_one(pid, touched) {
                 Ok(()) => {}
                 Err(refused) => {
                     self.keep_first(pid, before);

@@ -8,7 +8,6 @@
 mod last;
 mod reads;
 mod steps;
-mod touches;
 
 ghost use Rattle.model.specs.Walks.{look as look_in, walk, last_of};
 ghost use Rattle.look.specs.Asked.{Comes};
@@ -20,7 +19,6 @@ use look::Look;
 use path::Path;
 pub use reads::Reads;
 pub use steps::{must_be_directory, must_not_be_link, or_refuse};
-pub use touches::Touches;
 
 /// The place that a path leads to.
 pub fn walk<L: Look>(

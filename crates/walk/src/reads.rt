@@ -1,19 +1,21 @@
 // What a plan reads.
-ghost use Rattle.std.specs.Prelude.{◌≡◌, ◌∷◌, [], Some, None, OnOk, if◌then◌else◌, unwrap_or};
+ghost use Rattle.std.specs.Prelude.{◌≡◌, ◌+◌, ◌≤◌, ◌^◌, ◌∷◌, [], Some, None, OnOk, map};
+ghost use Rattle.std.specs.Prelude.{if◌then◌else◌, unwrap_or};
 ghost use Rattle.look.specs.Asked.{noting};
-ghost use Rattle.model.specs.Aspects.{Entry};
+ghost use Rattle.model.specs.Aspects.{Block, Entry};
+ghost use Rattle.model.specs.Plan.{rising};
 
-use crate::touches::Touches;
 use heap::Heap;
-use ids::{Aspect, Name, Num, Touch};
+use ids::{Aspect, Name, Num};
 use std::alloc::AllocError;
 use std::marker::Model;
+use touches::Touches;
 
 /// What is read, in the order in which it is asked for, or nothing at all where reads do not count,
 /// as in a call outside any transaction.
 pub struct Reads {
     count: bool,
-    touches: Vec<Touch, Heap>,
+    touches: Touches,
 }
 
 impl Drop for Reads {
@@ -31,7 +33,7 @@ impl Model for Reads {
 
     ghost Value = { Option (List Touch) };
 
-    ghost view = { λ r. if r.count then Some r.touches.items else None };
+    ghost view = { λ r. if r.count then Some r.touches else None };
 }
 
 impl Reads {
@@ -41,13 +43,13 @@ impl Reads {
     {
         Reads {
             count,
-            touches: Vec::new(heap),
+            touches: Touches::new(heap),
         }
     }
 
     /// The allocator.
     pub fn heap(&self) -> Heap {
-        *self.touches.allocator()
+        self.touches.heap()
     }
 
     /// One more. Where reads do not count it takes no memory.
@@ -55,8 +57,19 @@ impl Reads {
         ensures { OnOk result (self.new ≡ noting self.old (aspect ∷ [])) }
     {
         if self.count {
-            let write = false;
-            self.touches.push(Touch { aspect, write })?;
+            self.touches.push(aspect, false)?;
+        }
+        Ok(())
+    }
+
+    /// So many blocks of a file from one on. Where reads do not count it takes no memory.
+    pub fn add_blocks(&mut self, file: Num, first: u32, count: u32) -> Result<(), AllocError>
+        requires { first + count ≤ 2 ^ 32 }
+        ensures { OnOk result (self.new
+            ≡ noting self.old (map (Block file) (rising first count))) }
+    {
+        if self.count {
+            self.touches.push_blocks(file, first, count, false)?;
         }
         Ok(())
     }
@@ -77,11 +90,9 @@ impl Reads {
     {
         let Reads { count, touches } = self;
         if count {
-            Touches { touches }
+            touches
         } else {
-            Touches {
-                touches: Vec::new(*touches.allocator()),
-            }
+            Touches::new(touches.heap())
         }
     }
 }

@@ -6,4 +6,4 @@ pub add-requires : goal.add-requires
 add-requires c = let l = within_ranks c.self.inside.ranks c.self.inside.records _ c.args.pid c.self.view_is c.requires in let e = c.self.invariant in omega arith
 
 pub returns-clause-ok : goal.returns-clause-ok
-returns-clause-ok c = rw (← c.self.view_is, c.in_ok-add.ensures.ok) (add_becomes c.self.inside.ranks c.self.inside.records c.args.pid c.args.touches.items c.self.invariant (within_ranks c.self.inside.ranks c.self.inside.records _ c.args.pid c.self.view_is c.requires))
+returns-clause-ok c = rw (← c.self.view_is, c.in_ok-add.ensures.ok) (add_becomes c.self.inside.ranks c.self.inside.records c.args.pid c.args.touches c.self.invariant (within_ranks c.self.inside.ranks c.self.inside.records _ c.args.pid c.self.view_is c.requires))

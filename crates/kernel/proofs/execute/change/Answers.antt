@@ -14,6 +14,6 @@ returns-in-Err-clause-err c =
     unchanged f c.args.pid _ _ c.requires.asks.holds c.edit.ensures.state c.in-Err.ensures.err (record {
       count = kept.count ∙ added.count;
       own = kept.own ∙ ap (λ h. record { priority = h.priority; age = h.age; touches = take c.count-count.result h.touches }) added.own
-          ∙ ap (λ ts. record (contender_at f.held c.args.pid) { touches = ts }) (ap (λ n. take n (with_touches (contender_at f.held c.args.pid).touches c.args.touches.items)) c.count-count.ensures ∙ take-held (contender_at f.held c.args.pid).touches c.args.touches.items);
+          ∙ ap (λ ts. record (contender_at f.held c.args.pid) { touches = ts }) (ap (λ n. take n (with_touches (contender_at f.held c.args.pid).touches c.args.touches)) c.count-count.ensures ∙ take-held (contender_at f.held c.args.pid).touches c.args.touches);
       others = λ q differs. kept.others q differs ∙ added.others q differs;
     })

@@ -18,8 +18,8 @@ moved c =
     let chosen = c.in-Ok-change.chosen in
     let es = edits (seen_by (moment f.log) c.args.pid) c.args.pid c.args.call in
     subst (λ part. Moves (with_born c.args.within c.args.pid es f) (fields c.change.new.s) c.args.pid part (state_with c.args.within (effect chosen es) f.stable.state) [])
-    (same_part c.args.within (effect chosen es) c.args.plan.touches.items (counted_touches (moment f.log) c.args.pid c.args.call) (part_at f c.args.pid) c.requires.plans.touches)
-    (subst (λ es. Moves (with_born c.args.within c.args.pid es f) (fields c.change.new.s) c.args.pid (part_with c.args.within (effect chosen es) c.args.plan.touches.items (part_at f c.args.pid)) (state_with c.args.within (effect chosen es) f.stable.state) [])
+    (same_part c.args.within (effect chosen es) c.args.plan.touches (counted_touches (moment f.log) c.args.pid c.args.call) (part_at f c.args.pid) c.requires.plans.touches)
+    (subst (λ es. Moves (with_born c.args.within c.args.pid es f) (fields c.change.new.s) c.args.pid (part_with c.args.within (effect chosen es) c.args.plan.touches (part_at f c.args.pid)) (state_with c.args.within (effect chosen es) f.stable.state) [])
     c.requires.plans.edits c.in-Ok-change.ensures.moves)
 
 pub doom_each-requires : goal.doom_each-requires

@@ -1,0 +1,11 @@
+use Rattle.std.proofs.Common.{◌≡◌, ◌∙◌, sym, rules}
+use Rattle.std.specs.List.{list_any}
+use Rattle.model.specs.Modes.{reads_names}
+use Rattle.touches.specs.Expanded.{touches_of}
+use Rattle.marked_records.proofs.Expanding.{any_expanded}
+use Rattle.marked_records.proofs.marking.any_reads.Goals as goal
+
+pub returns : goal.returns
+returns c =
+    let e : c.any.result ≡ list_any (λ x. list_any (λ t. reads_names c.args.dir t.aspect) (touches_of x)) c.args.touches.now = search rules in
+    e ∙ sym (any_expanded (λ t. reads_names c.args.dir t.aspect) c.args.touches.now)

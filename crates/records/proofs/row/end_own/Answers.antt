@@ -1,0 +1,7 @@
+use Rattle.std.proofs.Common.{arith}
+use Rattle.std.proofs.lemmas.List.Edits.{map_over_more}
+use Rattle.records.specs.Rows.{own_ended}
+use Rattle.records.proofs.row.end_own.Goals as goal
+
+pub loop-holding-preserved : goal.loop-holding-preserved
+loop-holding-preserved c = grind (arith, map_over_more (own_ended c.args.pid c.args.write c.args.block))

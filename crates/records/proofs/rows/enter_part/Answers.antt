@@ -1,0 +1,11 @@
+use Rattle.std.proofs.Common.{◌≡◌, None, Some, arith}
+use Rattle.records.proofs.Held.{alone_entered}
+use Rattle.records.specs.Rows.{places_of}
+use Rattle.records.proofs.Outcomes.{ok_so}
+use Rattle.records.proofs.rows.enter_part.Goals as goal
+
+pub returns-in-None-clause-ok : goal.returns-in-None-clause-ok
+returns-in-None-clause-ok c =
+    ok_so c.open_alone.result
+    (alone_entered (places_of c.args.rows.now) (places_of c.open_alone.new.rows) c.args.user.file c.args.first c.args.last c.args.user.pid c.args.user.write c.args.goes_on c.in-None.ensures.none)
+    c.open_alone.ensures.ok
