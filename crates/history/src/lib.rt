@@ -193,7 +193,7 @@ impl History {
     }
 
     /// The most bytes that a file of the kernel may have.
-    pub fn largest_file(&self) -> u32
+    pub fn largest_file(&self) -> u64
         ensures value { result ≡ self.now.bounds.file_bytes }
         ensures small { result ≤ LARGEST_FILE }
     {

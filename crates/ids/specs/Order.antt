@@ -82,7 +82,7 @@ aspect_cmp_total = on_total aspect_code nat_list_cmp_total
 
 -- what is fed to a hash: the object, the part of it, the block, the name
 abbrev fed_of : List ℕ → List (List ℕ)
-fed_of (o ∷ k ∷ b ∷ x) = fed.usize o ++ fed.u8 k ++ fed.u32 b ++ x ∷ []
+fed_of (o ∷ k ∷ b ∷ x) = fed.usize o ++ fed.u8 k ++ fed.u64 b ++ x ∷ []
 fed_of _ = []
 
 abbrev pub aspect_fed : Aspect → List (List ℕ)

@@ -25,7 +25,7 @@ pub enum Aspect {
     /// A file's length.
     Size(Num),
     /// A file's 1,024 bytes from 1,024 times the second number.
-    Block(Num, u32),
+    Block(Num, u64),
     /// How many names give a file, or anything else that is no directory.
     Links(Num),
     /// How many descriptors are open on either end of a pipe.
@@ -119,7 +119,7 @@ impl Aspect {
     }
 
     /// The block of a file, 0 for what has none.
-    pub fn block(&self) -> u32
+    pub fn block(&self) -> u64
         ensures { result ≡ block_of self.now }
     {
         match self {
@@ -233,7 +233,7 @@ impl Hash for Aspect {
     fn hash<H: Hasher>(&self, state: &mut H) {
         state.write_usize(self.object());
         state.write_u8(self.part());
-        state.write_u32(self.block());
+        state.write_u64(self.block());
         state.write(self.name());
     }
 }

@@ -55,9 +55,9 @@ pub enum Call {
     /// Moves the offset.
     Lseek(Fd, i64, Whence),
     /// Cuts or grows a file to a length.
-    Ftruncate(Fd, u32),
+    Ftruncate(Fd, u64),
     /// Cuts or grows the file of a path to a length.
-    Truncate(Bytes, u32),
+    Truncate(Bytes, u64),
     /// Makes room in a file from an offset on, so many bytes, or makes a hole there.
     Fallocate(Fd, i64, i64, Space),
     /// Tells about the object of a path, which is no symbolic link.

@@ -30,10 +30,10 @@ pub const TARGET_LIMIT: usize = 4095;
 
 /// The most bytes that a file can have at all, and so the largest offset: what the layers below hold. A
 /// kernel has a number of its own, at most this ([`Limits::file_bytes`]).
-pub const LARGEST_FILE: usize = 2_147_483_647;
+pub const LARGEST_FILE: usize = 9_223_372_036_854_775_807;
 
 /// The most bytes of a file of a kernel for which no number is given.
-pub const DEFAULT_LARGEST_FILE: u32 = 1_048_576;
+pub const DEFAULT_LARGEST_FILE: u64 = 1_048_576;
 
 /// The most bytes that one read or write of a file moves.
 pub const MOST_MOVED: usize = 1_048_576;
@@ -54,7 +54,7 @@ pub const MAX_ENTRIES: usize = 1_048_576;
 #[derive(Debug, Clone, Copy)]
 pub struct Bounds {
     /// The most bytes that a file may have, and so the largest offset.
-    pub file_bytes: u32,
+    pub file_bytes: u64,
     /// How many descriptors a process may have; more than [`DESCRIPTORS`] are as many as these.
     pub descriptors: u32,
     /// The most bytes that a path may have.
@@ -80,7 +80,7 @@ pub struct Limits {
     /// How many entries its history keeps at most; at most [`MAX_ENTRIES`].
     pub entries: usize,
     /// The most bytes that a file may have, and so the largest offset; at most [`LARGEST_FILE`].
-    pub file_bytes: u32,
+    pub file_bytes: u64,
     /// How many descriptors a process may have; at most [`DESCRIPTORS`].
     pub descriptors: u32,
     /// The most bytes that a path may have; at most [`PATH_LIMIT`].

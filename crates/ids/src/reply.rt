@@ -33,7 +33,7 @@ pub struct Stat {
     /// Its number.
     pub num: Num,
     /// A file's length, or that of a symbolic link's target, else 0.
-    pub size: u32,
+    pub size: u64,
     /// How many names give it; 1 for a directory, 0 for a pipe.
     pub links: u32,
     /// Its permissions and its owner.
@@ -50,7 +50,7 @@ pub enum Answer {
     /// How many bytes were written.
     Count(u32),
     /// The new offset.
-    Place(u32),
+    Place(u64),
     /// What was read, or the target of a symbolic link.
     Bytes(Bytes),
     /// The descriptors of a pipe, the one to read from first.

@@ -324,7 +324,7 @@ impl Inodes {
 
     /// The numbers of the blocks of a file into which bytes were written, rising; none where the
     /// file was not written. It takes no memory.
-    pub fn changed(&self, num: Num) -> &[u32]
+    pub fn changed(&self, num: Num) -> &[u64]
         ensures value { result.now ≡ numbers_in (net_at self.now num).contents }
         ensures rising { IsStrictlyIncreasing result.now }
     {
@@ -335,7 +335,7 @@ impl Inodes {
     }
 }
 
-fn changed_in(contents: &Contents) -> &[u32]
+fn changed_in(contents: &Contents) -> &[u64]
     ensures value { result.now ≡ numbers_in contents.now }
     ensures rising { IsStrictlyIncreasing result.now }
 {

@@ -21,7 +21,7 @@ pub enum Opening {
     /// The transaction made it, and this is how it is now.
     New(Description),
     /// Its offset.
-    Moved(u32),
+    Moved(u64),
 }
 
 impl Opening {
@@ -38,7 +38,7 @@ impl Opening {
     }
 
     // The same with this offset.
-    fn moved_to(self, offset: u32) -> Opening
+    fn moved_to(self, offset: u64) -> Opening
         ensures { IsMoved offset self result }
     {
         match self {
@@ -53,7 +53,7 @@ impl Opening {
 }
 
 // A description with this offset.
-fn moved(stored: Option<Description>, offset: u32) -> Option<Description>
+fn moved(stored: Option<Description>, offset: u64) -> Option<Description>
     ensures { result ≡ mapped (at_offset offset) stored }
 {
     match stored {
@@ -125,7 +125,7 @@ impl Openings {
     }
 
     /// Notes a description's offset, in its place. It takes no memory.
-    pub(crate) fn move_to(&mut self, num: Num, offset: u32)
+    pub(crate) fn move_to(&mut self, num: Num, offset: u64)
         requires { kept_at self.old num ≢ None }
         ensures { AtOpening num (IsMoved offset) self.old self.new }
     {

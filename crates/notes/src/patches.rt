@@ -333,7 +333,7 @@ impl Patches {
     }
 
     // Bytes are written into a file.
-    fn write(&mut self, file: Num, offset: u32, bytes: &Bytes) -> Result<(), AllocError>
+    fn write(&mut self, file: Num, offset: u64, bytes: &Bytes) -> Result<(), AllocError>
         requires { offset + length bytes.now ≤ LARGEST_FILE }
         ensures ok { OnOk result ((before : ℕ)
             → TakesIn [] (Put_bytes file offset bytes.now before) self.old self.new) }
@@ -346,7 +346,7 @@ impl Patches {
     }
 
     // A file's length changes.
-    fn cut(&mut self, file: Num, after: u32) -> Result<(), AllocError>
+    fn cut(&mut self, file: Num, after: u64) -> Result<(), AllocError>
         requires { after ≤ LARGEST_FILE }
         ensures ok { OnOk result ((before : ℕ)
             → TakesIn [] (Cut file before after) self.old self.new) }

@@ -19,7 +19,7 @@ use std::mem;
 
 impl Patches {
     /// Notes that bytes of a file become zero. Refused memory changes nothing that shows.
-    pub(crate) fn wipe(&mut self, file: Num, offset: u32, count: u32) -> Result<(), AllocError>
+    pub(crate) fn wipe(&mut self, file: Num, offset: u64, count: u64) -> Result<(), AllocError>
         requires { offset + count ≤ LARGEST_FILE }
         ensures ok { OnOk result (TakesIn [] (Wipe file offset count) self.old self.new) }
         ensures err { OnErr result (SamePatches self.old self.new) }

@@ -97,7 +97,7 @@ impl Shadow {
 
     /// The numbers of the blocks of a file into which writes put bytes, rising; none where the file
     /// was not written. A cut, a growth or a gap adds none and takes none away. It takes no memory.
-    pub fn changed(&self, num: Num) -> &[u32]
+    pub fn changed(&self, num: Num) -> &[u64]
         ensures rising { IsStrictlyIncreasing result.now }
         ensures blocks { (k : Kernel) (b : ℕ) → AllFit self.now k
             → Contains result.now b ↔ Contains (blocks_written num self.now) b }

@@ -381,7 +381,7 @@ impl<'a> Look for View<'a> {
         self.stable.root()
     }
 
-    fn largest(&self) -> u32 {
+    fn largest(&self) -> u64 {
         // For the proof: changes leave the bounds.
         keeps_rest(self.shadow);
         self.stable.bounds().file_bytes
@@ -425,18 +425,17 @@ impl<'a> Look for View<'a> {
         }
     }
 
-    fn size(&self, file: Num) -> Result<u32, AllocError> {
-        small(self.len(file) as u128)
+    fn size(&self, file: Num) -> Result<u64, AllocError> {
+        Ok(self.len(file) as u64)
     }
 
     fn read_file(
         &self,
         heap: Heap,
         file: Num,
-        offset: u32,
+        offset: u64,
         count: u32,
     ) -> Result<Bytes, AllocError> {
-        small(self.len(file) as u128)?;
         self.bytes(heap, file, offset as usize, count as usize)
     }
 
@@ -445,11 +444,11 @@ impl<'a> Look for View<'a> {
         heap: Heap,
         file: Num,
         holes: bool,
-        first: u32,
-        count: u32,
-    ) -> Result<u32, AllocError> {
+        first: u64,
+        count: u64,
+    ) -> Result<u64, AllocError> {
         let passed = self.passed(heap, file, holes, (first as usize, count as usize))?;
-        Ok(passed as u32)
+        Ok(passed as u64)
     }
 
     fn links(&self, file: Num) -> Result<u32, AllocError> {
@@ -472,7 +471,7 @@ impl<'a> Look for View<'a> {
         }
     }
 
-    fn offset(&self, description: Num) -> Result<u32, AllocError> {
+    fn offset(&self, description: Num) -> Result<u64, AllocError> {
         match self.description(description) {
             Some(description) => Ok(description.offset),
             None => Ok(0),

@@ -134,7 +134,7 @@ fn change_pipe_in(object: &mut Object, taken: usize, appended: &[u8])
 }
 
 /// The next read or write of a description begins at this offset.
-pub fn set_offset_at(headers: &mut Slab<Header, Heap>, key: usize, offset: u32)
+pub fn set_offset_at(headers: &mut Slab<Header, Heap>, key: usize, offset: u64)
     ensures { Updates headers.old headers.new key
         (option_map (at_place (with_opened (moved_to offset))) (get headers.old key)) }
 {
@@ -143,7 +143,7 @@ pub fn set_offset_at(headers: &mut Slab<Header, Heap>, key: usize, offset: u32)
     }
 }
 
-fn set_offset_in(object: &mut Object, offset: u32)
+fn set_offset_in(object: &mut Object, offset: u64)
     ensures { object.new ≡ changed_opened (moved_to offset) object.old }
 {
     if let Object::Description(opened) = object {

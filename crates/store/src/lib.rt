@@ -479,7 +479,7 @@ impl Store {
 
     /// A description's next read or write begins at this offset; where the number is of none,
     /// nothing changes. It takes no memory.
-    pub fn set_offset(&mut self, num: Num, offset: u32)
+    pub fn set_offset(&mut self, num: Num, offset: u64)
         ensures moved { self.new ≡ altered (with_opened (moved_to offset)) self.old num }
         ensures shown { inodes self.new ≡ inodes self.old }
         ensures open { descriptions self.new ≡ with_offset offset (descriptions self.old) num }
