@@ -14,22 +14,22 @@ use std::alloc::AllocError;
 use walk::Reads;
 
 // The blocks of so many bytes of a file from an offset on: the first of them, and how many there are.
-pub(crate) fn blocks_of(offset: u32, count: u32) -> (u32, u32)
-    requires { offset + count < 2 ^ 32 }
+pub(crate) fn blocks_of(offset: u64, count: u64) -> (u64, u64)
+    requires { offset + count < 2 ^ 64 }
     ensures blocks { rising result.0 result.1 ≡ blocks offset count }
-    ensures small { result.0 + result.1 < 2 ^ 32 }
+    ensures small { result.0 + result.1 < 2 ^ 64 }
 {
     if count == 0 {
         return (0, 0);
     }
-    let first = offset / BLOCK_LEN as u32;
-    let last = (offset + (count - 1)) / BLOCK_LEN as u32;
+    let first = offset / BLOCK_LEN as u64;
+    let last = (offset + (count - 1)) / BLOCK_LEN as u64;
     (first, last - first + 1)
 }
 
 // Reads the blocks of so many bytes of a file from an offset on.
-fn read_blocks(reads: &mut Reads, file: Num, offset: u32, count: u32) -> Result<(), AllocError>
-    requires { offset + count < 2 ^ 32 }
+fn read_blocks(reads: &mut Reads, file: Num, offset: u64, count: u64) -> Result<(), AllocError>
+    requires { offset + count < 2 ^ 64 }
     ensures { OnOk result (reads.new ≡ noting reads.old (map (Block file) (blocks offset count))) }
 {
     let (first, len) = blocks_of(offset, count);
@@ -42,9 +42,9 @@ pub(crate) fn pass<L: Look>(
     look: &L,
     file: Num,
     holes: bool,
-    blocks: (u32, u32),
+    blocks: (u64, u64),
     reads: &mut Reads,
-) -> Result<u32, Refusal>
+) -> Result<u64, Refusal>
     requires { blocks.0 + blocks.1 ≤ LARGEST_FILE }
     ensures value { Comes (L.state look.now)
         (ask (Pass_blocks holes file blocks.0 blocks.1)) reads.old result reads.new }
@@ -65,7 +65,7 @@ pub(crate) fn ends<L: Look>(look: &L, pipe: Num, reads: &mut Reads) -> Result<(u
 }
 
 // A description's offset.
-pub(crate) fn offset<L: Look>(look: &L, description: Num, reads: &mut Reads) -> Result<u32, Refusal>
+pub(crate) fn offset<L: Look>(look: &L, description: Num, reads: &mut Reads) -> Result<u64, Refusal>
     ensures { Comes (L.state look.now)
         (ask (Find_offset description)) reads.old result reads.new }
 {
@@ -77,18 +77,18 @@ pub(crate) fn offset<L: Look>(look: &L, description: Num, reads: &mut Reads) -> 
 pub(crate) fn read_file<L: Look>(
     look: &L,
     file: Num,
-    offset: u32,
+    offset: u64,
     count: u32,
     reads: &mut Reads,
 ) -> Result<Bytes, Refusal>
     requires { count ≤ MOST_MOVED }
     ensures value { Comes (L.state look.now)
         (ask (Read_file file offset count)) reads.old result reads.new }
-    ensures small { IfOk result (λ bytes. offset + length bytes < 2 ^ 32) }
+    ensures small { IfOk result (λ bytes. offset + length bytes < 2 ^ 64) }
 {
     reads.add(Aspect::Size(file))?;
     let bytes = look.read_file(reads.heap(), file, offset, count)?;
-    read_blocks(reads, file, offset, bytes.as_slice().len() as u32)?;
+    read_blocks(reads, file, offset, bytes.as_slice().len() as u64)?;
     Ok(bytes)
 }
 

@@ -59,15 +59,8 @@ fn read_from<L: Look>(
 ) -> Result<Change, Refusal>
     ensures { Comes (L.state look.now) (read_from file offset count) reads.old result reads.new }
 {
-    let bytes = read_file(look, file, bounded(offset), at_most_moved(count), reads)?;
+    let bytes = read_file(look, file, offset, at_most_moved(count), reads)?;
     unchanged(reads.heap(), Answer::Bytes(bytes))
-}
-
-// The offset in 32 bits. No file has a byte at the last of these, nor further on.
-fn bounded(offset: u64) -> u32
-    ensures { result ≡ min offset (2 ^ 32 - 1) }
-{
-    offset.min(u32::MAX as u64) as u32
 }
 
 pub(crate) fn pwrite<L: Look>(
@@ -95,7 +88,7 @@ pub(crate) fn pwrite<L: Look>(
 // Bytes that a file gets from an offset on, whether its description appends or not.
 fn write_from<L: Look>(
     look: &L,
-    largest: u32,
+    largest: u64,
     it: Slot,
     offset: u64,
     bytes: &Bytes,
@@ -105,15 +98,14 @@ fn write_from<L: Look>(
         (write_from largest it.inode offset bytes.now) reads.old result reads.new }
 {
     must_be_below(offset, largest, Errno::EFBIG)?;
-    let offset = offset as u32;
     let size = size(look, it.inode, reads)?;
     let kept = first_bytes(reads.heap(), bytes, room(largest, offset))?;
     put(reads.heap(), it.inode, offset, kept, size)
 }
 
 // The bytes alone: no description's offset moves.
-fn put(heap: Heap, file: Num, offset: u32, kept: Bytes, size: u32) -> Result<Change, Refusal>
-    requires { offset + length kept < 2 ^ 32 }
+fn put(heap: Heap, file: Num, offset: u64, kept: Bytes, size: u64) -> Result<Change, Refusal>
+    requires { offset + length kept < 2 ^ 64 }
     ensures { Tells (changed (Count (length kept)) (Put_bytes file offset kept size ∷ [])) result }
 {
     let count = kept.as_slice().len() as u32;

@@ -53,11 +53,11 @@ pub(crate) fn must_not_be_pipe(kind: Option<Kind>, errno: Errno) -> Result<(), R
     }
 }
 
-pub(crate) fn must_be_below(number: u64, bound: u32, errno: Errno) -> Result<(), Refusal>
+pub(crate) fn must_be_below(number: u64, bound: u64, errno: Errno) -> Result<(), Refusal>
     ensures value { Tells (refuse_if (nat_le bound number) errno) result }
     ensures within { IfOk result (λ _. number < bound) }
 {
-    if bound as u64 <= number {
+    if bound <= number {
         Err(Refusal::Errno(errno))
     } else {
         Ok(())

@@ -156,7 +156,7 @@ pub(crate) fn ftruncate<L: Look>(
     look: &L,
     pid: Pid,
     fd: Fd,
-    length: u32,
+    length: u64,
     reads: &mut Reads,
 ) -> Result<Change, Refusal>
     ensures { Comes (L.state look.now)
@@ -244,8 +244,8 @@ pub(crate) fn at_most_moved(count: u32) -> u32
 }
 
 // The offset behind these bytes.
-fn moved_on(heap: Heap, description: Num, offset: u32, bytes: &Bytes) -> Result<Edits, AllocError>
-    requires { offset + length bytes.now < 2 ^ 32 }
+fn moved_on(heap: Heap, description: Num, offset: u64, bytes: &Bytes) -> Result<Edits, AllocError>
+    requires { offset + length bytes.now < 2 ^ 64 }
     ensures { IfOk result (λ edits. edits ≡ (if is_empty bytes.now then []
         else Set_offset description (offset + length bytes.now) ∷ [])) }
 {
@@ -254,7 +254,7 @@ fn moved_on(heap: Heap, description: Num, offset: u32, bytes: &Bytes) -> Result<
     } else {
         Edits::new(heap).with(Edit::SetOffset {
             description,
-            offset: offset + bytes.as_slice().len() as u32,
+            offset: offset + bytes.as_slice().len() as u64,
         })
     }
 }
@@ -310,7 +310,7 @@ fn write_pipe<L: Look>(
 
 fn write_file<L: Look>(
     look: &L,
-    largest: u32,
+    largest: u64,
     it: Slot,
     bytes: &Bytes,
     reads: &mut Reads,
@@ -319,30 +319,30 @@ fn write_file<L: Look>(
         (some_to_file largest it bytes.now) reads.old result reads.new }
 {
     let offset = offset_to_write(look, &it, reads)?;
-    must_be_below(offset as u64, largest, Errno::EFBIG)?;
+    must_be_below(offset, largest, Errno::EFBIG)?;
     let size = size(look, it.inode, reads)?;
     let kept = first_bytes(reads.heap(), bytes, room(largest, offset))?;
     put(reads.heap(), it.inode, it.description, offset, kept, size)
 }
 
 // How many bytes one write puts at an offset of a file that may have so many.
-pub(crate) fn room(largest: u32, offset: u32) -> u32
+pub(crate) fn room(largest: u64, offset: u64) -> u32
     requires { offset < largest }
     ensures is { result ≡ room largest offset }
     ensures within { offset + result ≤ largest }
 {
-    (largest - offset).min(MOST_MOVED as u32)
+    (largest - offset).min(MOST_MOVED as u64) as u32
 }
 
 fn put(
     heap: Heap,
     file: Num,
     description: Num,
-    offset: u32,
+    offset: u64,
     kept: Bytes,
-    size: u32,
+    size: u64,
 ) -> Result<Change, Refusal>
-    requires { offset + length kept < 2 ^ 32 }
+    requires { offset + length kept < 2 ^ 64 }
     ensures { Tells (changed (Count (length kept))
         (Put_bytes file offset kept size ∷ Set_offset description (offset + length kept) ∷ []))
         result }
@@ -356,7 +356,7 @@ fn put(
     })?;
     let edits = written.with(Edit::SetOffset {
         description,
-        offset: offset + count,
+        offset: offset + u64::from(count),
     })?;
     changed(Answer::Count(count), edits)
 }
@@ -374,7 +374,7 @@ pub(crate) fn first_bytes(heap: Heap, bytes: &Bytes, count: u32) -> Result<Bytes
     }
 }
 
-fn offset_to_write<L: Look>(look: &L, it: &Slot, reads: &mut Reads) -> Result<u32, Refusal>
+fn offset_to_write<L: Look>(look: &L, it: &Slot, reads: &mut Reads) -> Result<u64, Refusal>
     ensures { Comes (L.state look.now)
         (place_to_write it.now it.now.appending) reads.old result reads.new }
 {

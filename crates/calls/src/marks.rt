@@ -67,8 +67,8 @@ fn mark_move(
 }
 
 // The blocks of so many bytes of a file from an offset on.
-fn mark_blocks(file: Num, offset: u32, count: u32, touches: &mut Touches) -> Result<(), AllocError>
-    requires { offset + count < 2 ^ 32 }
+fn mark_blocks(file: Num, offset: u64, count: u64, touches: &mut Touches) -> Result<(), AllocError>
+    requires { offset + count < 2 ^ 64 }
     ensures { OnOk result
         (touches.new ≡ touches.old ++ writing (map (Block file) (blocks offset count))) }
 {
@@ -79,18 +79,16 @@ fn mark_blocks(file: Num, offset: u32, count: u32, touches: &mut Touches) -> Res
 // Bytes of a file that had so many before.
 fn mark_bytes(
     file: Num,
-    offset: u32,
+    offset: u64,
     bytes: &[u8],
-    before: u32,
+    before: u64,
     touches: &mut Touches,
 ) -> Result<(), AllocError>
     ensures { OnOk result
         (touches.new ≡ touches.old ++ writing (marks (Put_bytes file offset bytes.now before))) }
 {
-    // For the proof: a plan's bytes end below 2^32, which an edit alone does not say.
-    let Ok(count) = u32::try_from(bytes.len()) else {
-        return Err(AllocError);
-    };
+    // For the proof: a plan's bytes end below 2^64, which an edit alone does not say.
+    let count = bytes.len() as u64;
     let Some(end) = offset.checked_add(count) else {
         return Err(AllocError);
     };
@@ -101,11 +99,11 @@ fn mark_bytes(
 }
 
 // Bytes of a file that become zero.
-fn mark_wiped(file: Num, offset: u32, count: u32, touches: &mut Touches) -> Result<(), AllocError>
+fn mark_wiped(file: Num, offset: u64, count: u64, touches: &mut Touches) -> Result<(), AllocError>
     ensures { OnOk result
         (touches.new ≡ touches.old ++ writing (marks (Wipe file offset count))) }
 {
-    // For the proof: what a plan wipes ends below 2^32, which an edit alone does not say.
+    // For the proof: what a plan wipes ends below 2^64, which an edit alone does not say.
     match offset.checked_add(count) {
         Some(_) => mark_blocks(file, offset, count, touches),
         None => Err(AllocError),
@@ -128,7 +126,7 @@ fn mark_two(
 }
 
 // A file's length, before and after.
-fn mark_cut(file: Num, before: u32, after: u32, touches: &mut Touches) -> Result<(), AllocError>
+fn mark_cut(file: Num, before: u64, after: u64, touches: &mut Touches) -> Result<(), AllocError>
     ensures { OnOk result
         (touches.new ≡ touches.old ++ writing (marks (Cut file before after))) }
 {

@@ -33,7 +33,7 @@ pub(crate) fn fallocate<L: Look>(
     refuse_if(!it.writing, Errno::EBADF)?;
     must_not_be_pipe(it.kind, Errno::ESPIPE)?;
     must_end_within(offset, count, look.largest())?;
-    spaced(look, it.inode, offset as u32, count as u32, space, reads)
+    spaced(look, it.inode, offset, count, space, reads)
 }
 
 // The length that a call names: there is none below 1.
@@ -48,7 +48,7 @@ fn length_named(length: i64) -> Option<u64>
 }
 
 // A range that ends where a file may end.
-fn must_end_within(offset: u64, count: u64, largest: u32) -> Result<(), Refusal>
+fn must_end_within(offset: u64, count: u64, largest: u64) -> Result<(), Refusal>
     ensures value { Tells (refuse_if (nat_lt largest (offset + count)) EFBIG) result }
     ensures within { IfOk result (λ _. offset + count ≤ largest) }
 {
@@ -63,12 +63,12 @@ fn must_end_within(offset: u64, count: u64, largest: u32) -> Result<(), Refusal>
 fn spaced<L: Look>(
     look: &L,
     file: Num,
-    offset: u32,
-    count: u32,
+    offset: u64,
+    count: u64,
     space: Space,
     reads: &mut Reads,
 ) -> Result<Change, Refusal>
-    requires { offset + count < 2 ^ 32 }
+    requires { offset + count < 2 ^ 64 }
     ensures { Comes (L.state look.now)
         (spaced file offset count space) reads.old result reads.new }
 {
@@ -83,11 +83,11 @@ fn spaced<L: Look>(
 fn grown<L: Look>(
     look: &L,
     file: Num,
-    offset: u32,
-    count: u32,
+    offset: u64,
+    count: u64,
     reads: &mut Reads,
 ) -> Result<Change, Refusal>
-    requires { offset + count < 2 ^ 32 }
+    requires { offset + count < 2 ^ 64 }
     ensures { Comes (L.state look.now) (spaced file offset count Grow) reads.old result reads.new }
 {
     let size = size(look, file, reads)?;
@@ -107,8 +107,8 @@ fn grown<L: Look>(
 }
 
 // Whether a file ends before a range does.
-fn ends_before(size: u32, offset: u32, count: u32) -> bool
-    requires { offset + count < 2 ^ 32 }
+fn ends_before(size: u64, offset: u64, count: u64) -> bool
+    requires { offset + count < 2 ^ 64 }
     ensures { result ≡ nat_lt size (offset + count) }
 {
     size < offset + count
@@ -118,8 +118,8 @@ fn ends_before(size: u32, offset: u32, count: u32) -> bool
 fn punched<L: Look>(
     look: &L,
     file: Num,
-    offset: u32,
-    count: u32,
+    offset: u64,
+    count: u64,
     reads: &mut Reads,
 ) -> Result<Change, Refusal>
     ensures { Comes (L.state look.now) (spaced file offset count Punch) reads.old result reads.new }
@@ -141,14 +141,14 @@ fn punched<L: Look>(
 }
 
 // Whether a range begins before a file ends.
-fn begins_within(offset: u32, size: u32) -> bool
+fn begins_within(offset: u64, size: u64) -> bool
     ensures { result ≡ nat_lt offset size }
 {
     offset < size
 }
 
 // How many bytes of a range a file has.
-fn part_within(size: u32, offset: u32, count: u32) -> u32
+fn part_within(size: u64, offset: u64, count: u64) -> u64
     ensures { result ≡ min count (size - offset) }
 {
     count.min(size.saturating_sub(offset))

@@ -85,12 +85,11 @@ fn found_from<L: Look>(
     holes: bool,
     from: u64,
     reads: &mut Reads,
-) -> Result<u32, Refusal>
+) -> Result<u64, Refusal>
     ensures { Comes (L.state look.now) (found_from holes file from) reads.old result reads.new }
 {
     let size = size(look, file, reads)?;
     must_be_below(from, size, Errno::ENXIO)?;
-    let from = from as u32;
     let passed = pass(look, file, !holes, row(from, size), reads)?;
     let place = behind_blocks(from, passed);
     must_not_lack_data(holes, size, place)?;
@@ -98,43 +97,44 @@ fn found_from<L: Look>(
 }
 
 // Behind a file's end there is no data.
-fn must_not_lack_data(holes: bool, size: u32, place: u64) -> Result<(), Refusal>
+fn must_not_lack_data(holes: bool, size: u64, place: u64) -> Result<(), Refusal>
     ensures { Tells (refuse_if (not holes && nat_le size place) ENXIO) result }
 {
-    refuse_if(!holes && u64::from(size) <= place, Errno::ENXIO)
+    refuse_if(!holes && size <= place, Errno::ENXIO)
 }
 
 // The blocks of a file from a place on: the first of them, and how many there are.
-fn row(from: u32, size: u32) -> (u32, u32)
+fn row(from: u64, size: u64) -> (u64, u64)
     requires { from < size }
     ensures first { result.0 ≡ from / block_length }
     ensures count { result.1 ≡ suc ((size - 1) / block_length - from / block_length) }
     ensures small { result.0 + result.1 ≤ LARGEST_FILE }
 {
-    let first = from / BLOCK_LEN as u32;
-    (first, (size - 1) / BLOCK_LEN as u32 - first + 1)
+    let first = from / BLOCK_LEN as u64;
+    (first, (size - 1) / BLOCK_LEN as u64 - first + 1)
 }
 
 // A place of a file, or its end.
-fn within(size: u32, place: u64) -> u32
+fn within(size: u64, place: u64) -> u64
     ensures { result ≡ min size place }
 {
-    u64::from(size).min(place) as u32
+    size.min(place)
 }
 
 // From a place on, behind so many blocks.
-fn behind_blocks(from: u32, passed: u32) -> u64
+fn behind_blocks(from: u64, passed: u64) -> u64
+    requires { (from / BLOCK_LEN + passed) * BLOCK_LEN < 2 ^ 64 }
     ensures { result ≡ behind_blocks from passed }
 {
     if passed == 0 {
-        u64::from(from)
+        from
     } else {
-        (u64::from(from / BLOCK_LEN as u32) + u64::from(passed)) * BLOCK_LEN as u64
+        (from / BLOCK_LEN as u64 + passed) * BLOCK_LEN as u64
     }
 }
 
 // The new offset.
-fn sought(heap: Heap, it: &Slot, found: Option<u32>) -> Result<Change, Refusal>
+fn sought(heap: Heap, it: &Slot, found: Option<u64>) -> Result<Change, Refusal>
     ensures { (largest : ℕ) (sum : ℤ) → offset_in largest sum ≡ found
         → Tells (sought largest it.now sum) result }
 {
@@ -152,7 +152,7 @@ fn sought(heap: Heap, it: &Slot, found: Option<u32>) -> Result<Change, Refusal>
 }
 
 // The offset that a sum is, if a file may be so long.
-fn offset_of(largest: u32, sum: i128) -> Option<u32>
+fn offset_of(largest: u64, sum: i128) -> Option<u64>
     ensures { result ≡ offset_in largest sum }
 {
     if sum < 0 {
@@ -160,6 +160,6 @@ fn offset_of(largest: u32, sum: i128) -> Option<u32>
     } else if sum > i128::from(largest) {
         None
     } else {
-        Some(sum as u32)
+        Some(sum as u64)
     }
 }

@@ -24,7 +24,7 @@ pub(crate) fn has_no_names<L: Look>(look: &L, dir: Num, reads: &mut Reads) -> Re
 }
 
 /// A file's length, and that it is read.
-pub fn size<L: Look>(look: &L, file: Num, reads: &mut Reads) -> Result<u32, Refusal>
+pub fn size<L: Look>(look: &L, file: Num, reads: &mut Reads) -> Result<u64, Refusal>
     ensures { Comes (L.state look.now) (ask (Measure file)) reads.old result reads.new }
 {
     reads.add(Aspect::Size(file))?;

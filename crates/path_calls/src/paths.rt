@@ -57,7 +57,7 @@ pub(crate) fn last_at<L: Look>(
 pub fn cut_to<L: Look>(
     look: &L,
     file: Num,
-    length: u32,
+    length: u64,
     reads: &mut Reads,
 ) -> Result<Edits, Refusal>
     ensures { Comes (L.state look.now) (cut_to file length) reads.old result reads.new }
@@ -75,7 +75,7 @@ pub fn cut_to<L: Look>(
 pub fn truncate<L: Look>(
     look: &L,
     path: &Bytes,
-    length: u32,
+    length: u64,
     reads: &mut Reads,
 ) -> Result<Change, Refusal>
     ensures { (pid : ℕ) → Comes (L.state look.now)

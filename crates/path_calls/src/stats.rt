@@ -41,7 +41,7 @@ fn status_of<L: Look>(look: &L, num: Num, kind: Kind, reads: &mut Reads) -> Resu
         Kind::Link => {
             let size = target_length(look, num, reads)?;
             let links = links(look, num, reads)?;
-            stated(look, Kind::Link, num, size, links, reads)
+            stated(look, Kind::Link, num, u64::from(size), links, reads)
         }
         Kind::Fifo => status_of_name(look, num, Kind::Fifo, reads),
         Kind::Socket => status_of_name(look, num, Kind::Socket, reads),
@@ -66,7 +66,7 @@ fn stated<L: Look>(
     look: &L,
     kind: Kind,
     num: Num,
-    size: u32,
+    size: u64,
     links: u32,
     reads: &mut Reads,
 ) -> Result<Change, Refusal>

@@ -164,7 +164,7 @@ impl PlainKernel {
     }
 
     // A description's offset.
-    fn set_offset(&mut self, num: Num, offset: u32)
+    fn set_offset(&mut self, num: Num, offset: u64)
         ensures { self.new ≡ set_offset num offset (get self.old.descriptions num) self.old }
     {
         self.descriptions.set_offset(num, offset);

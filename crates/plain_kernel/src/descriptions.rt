@@ -90,7 +90,7 @@ impl Descriptions {
     }
 
     // A description's offset, if there is one. It takes no memory.
-    pub(crate) fn set_offset(&mut self, num: Num, offset: u32)
+    pub(crate) fn set_offset(&mut self, num: Num, offset: u64)
         ensures { MatchOption (map.get self.old num) (self.new ≡ self.old)
             (λ old. self.new ≡ map.insert self.old num (at_offset offset old)) }
     {

@@ -152,12 +152,12 @@ pub(crate) fn is_empty_in(inode: Option<&Inode>) -> bool
 }
 
 // How many bytes a file has.
-pub(crate) fn size_in(inode: Option<&Inode>) -> u32
+pub(crate) fn size_in(inode: Option<&Inode>) -> u64
     ensures { result ≡ length (file_of_inode (option_copied inode.entry)) }
 {
     match inode {
         Some(inode) => match &inode.content {
-            Content::File(stored) => stored.len() as u32,
+            Content::File(stored) => stored.len() as u64,
             Content::Directory(_) => 0,
             Content::Pipe(_) => 0,
             Content::Fixed(_) => 0,
@@ -166,22 +166,22 @@ pub(crate) fn size_in(inode: Option<&Inode>) -> u32
     }
 }
 
-// At most `count` bytes of a file, behind the first `skipped` ones. They end below 2^32.
+// At most `count` bytes of a file, behind the first `skipped` ones. They end below 2^64.
 pub(crate) fn read_in(
     heap: Heap,
     inode: Option<&Inode>,
-    skipped: u32,
+    skipped: u64,
     count: u32,
 ) -> Result<Bytes, AllocError>
     requires { count ≤ LARGEST_RUN }
     ensures value { IfOk result
         (λ bytes. bytes ≡ take count (drop skipped (file_of_inode (option_copied inode.entry)))) }
-    ensures small { IfOk result (λ bytes. skipped + length bytes < 2 ^ 32) }
+    ensures small { IfOk result (λ bytes. skipped + length bytes < 2 ^ 64) }
 {
     match inode {
         Some(inode) => match &inode.content {
             Content::File(stored) => {
-                // For the proof: the file ends below 2^32.
+                // For the proof: the file ends below 2^64.
                 let _len = stored.len();
                 stored.read_at(heap, skipped as usize, count as usize)
             }
@@ -198,9 +198,9 @@ pub(crate) fn passed_in(
     heap: Heap,
     inode: Option<&Inode>,
     holes: bool,
-    first: u32,
-    count: u32,
-) -> u32
+    first: u64,
+    count: u64,
+) -> u64
     requires { first + count ≤ LARGEST_FILE }
     ensures value { result
         ≡ alike_from holes (file_of_inode (option_copied inode.entry)) first count }
@@ -216,7 +216,7 @@ pub(crate) fn passed_in(
         },
         None => &none,
     };
-    stored.pass(holes, first as usize, count as usize) as u32
+    stored.pass(holes, first as usize, count as usize) as u64
 }
 
 // The bytes of a pipe.

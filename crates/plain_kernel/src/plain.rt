@@ -32,7 +32,7 @@ pub(crate) struct Description {
     pub(crate) reading: bool,
     pub(crate) writing: bool,
     pub(crate) appending: bool,
-    pub(crate) offset: u32,
+    pub(crate) offset: u64,
 }
 
 impl Model for Description {
@@ -150,7 +150,7 @@ impl PlainKernel {
     }
 
     /// The most bytes of a file.
-    pub fn largest_file(&self) -> u32
+    pub fn largest_file(&self) -> u64
         ensures value { result ≡ self.now.bounds.file_bytes }
         ensures bound { result ≤ LARGEST_FILE }
     {
@@ -248,7 +248,7 @@ impl Look for PlainKernel {
         self.root
     }
 
-    fn largest(&self) -> u32 {
+    fn largest(&self) -> u64 {
         self.bounds.file_bytes
     }
 
@@ -275,7 +275,7 @@ impl Look for PlainKernel {
         names_in(heap, self.inodes.get(dir))
     }
 
-    fn size(&self, file: Num) -> Result<u32, AllocError> {
+    fn size(&self, file: Num) -> Result<u64, AllocError> {
         Ok(size_in(self.inodes.get(file)))
     }
 
@@ -283,7 +283,7 @@ impl Look for PlainKernel {
         &self,
         heap: Heap,
         file: Num,
-        offset: u32,
+        offset: u64,
         count: u32,
     ) -> Result<Bytes, AllocError> {
         read_in(heap, self.inodes.get(file), offset, count)
@@ -294,9 +294,9 @@ impl Look for PlainKernel {
         heap: Heap,
         file: Num,
         holes: bool,
-        first: u32,
-        count: u32,
-    ) -> Result<u32, AllocError> {
+        first: u64,
+        count: u64,
+    ) -> Result<u64, AllocError> {
         Ok(passed_in(heap, self.inodes.get(file), holes, first, count))
     }
 
@@ -310,7 +310,7 @@ impl Look for PlainKernel {
         Ok((reading, writing))
     }
 
-    fn offset(&self, description: Num) -> Result<u32, AllocError> {
+    fn offset(&self, description: Num) -> Result<u64, AllocError> {
         match self.descriptions.get(description) {
             Some(description) => Ok(description.offset),
             None => Ok(0),

@@ -16,7 +16,7 @@ use std::alloc::AllocError;
 type Found = Vec<Mark, Heap>;
 
 /// Whether it is a use by reading or by writing, and has a block that is not before its row.
-fn is_user(holding: &Holding, write: bool, block: u32) -> bool
+fn is_user(holding: &Holding, write: bool, block: u64) -> bool
     ensures { result ≡ (alike holding.now.write write && has_block block holding.now) }
 {
     holding.write == write && block <= holding.last
@@ -27,7 +27,7 @@ fn collect_side(
     row: &Row,
     caller: Pid,
     aspect: &Aspect,
-    block: u32,
+    block: u64,
     write: bool,
     found: Found,
 ) -> Result<Found, AllocError>
@@ -50,7 +50,7 @@ pub fn collect_users(
     row: Option<&Row>,
     caller: Pid,
     touch: &Touch,
-    block: u32,
+    block: u64,
 ) -> Result<Found, AllocError>
     ensures { IfOk result (λ r. r.items ≡ marks_on_block caller touch.now.aspect touch.now.write block
         (holdings_of (option_copied row))) }

@@ -148,7 +148,7 @@ fn push_entry(entries: &mut Entries, touched: Touched) -> Result<(), Touched>
 }
 
 /// Blocks without so many of the last, and these.
-fn cut(blocks: Blocks, gone: u32) -> (Blocks, Blocks)
+fn cut(blocks: Blocks, gone: u64) -> (Blocks, Blocks)
     requires some { 0 < gone }
     requires fewer { gone < blocks.count }
     ensures both { touches_of (Touched.Blocks blocks)
@@ -206,7 +206,7 @@ fn pop_entry(entries: &mut Entries, most: u128) -> Option<Touched>
         return None;
     }
     if let Some(blocks) = cut_by(&entries[count - 1], most) {
-        let (kept, gone) = cut(blocks, most as u32);
+        let (kept, gone) = cut(blocks, most as u64);
         entries[count - 1] = Touched::Blocks(kept);
         return Some(Touched::Blocks(gone));
     }

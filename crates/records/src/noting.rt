@@ -50,7 +50,7 @@ fn note_one(
 }
 
 /// One block.
-fn only(file: Num, block: u32, write: bool) -> Blocks
+fn only(file: Num, block: u64, write: bool) -> Blocks
     ensures some { 0 < result.count }
     ensures one { touches_of (Touched.Blocks result) ≡ touches_of_blocks file block 1 write }
 {
@@ -70,7 +70,7 @@ fn note_part(
     rows: &mut Rows,
     pid: Pid,
     blocks: Blocks,
-    last: u32,
+    last: u64,
 ) -> Result<(), AllocError>
     requires within { pid < length journals.old }
     requires rows { AreRowsOf journals.old (places_of rows.old) }
@@ -109,7 +109,7 @@ fn note_first(
     rows: &mut Rows,
     pid: Pid,
     blocks: Blocks,
-) -> Result<u32, AllocError>
+) -> Result<u64, AllocError>
     requires within { pid < length journals.old }
     requires rows { AreRowsOf journals.old (places_of rows.old) }
     requires some { 0 < blocks.count }

@@ -135,7 +135,7 @@ impl Records {
 
     /// The first block behind one of a file, up to a last one, at which somebody's use begins: of
     /// the blocks before it each user uses the block before it too. It takes no memory.
-    pub fn next_start(&self, file: Num, block: u32, last: u32) -> Option<u32>
+    pub fn next_start(&self, file: Num, block: u64, last: u64) -> Option<u64>
         requires { block ≤ last }
         ensures behind { IfSome result (λ next. block < next) }
         ensures within { IfSome result (λ next. next ≤ last) }

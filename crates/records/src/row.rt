@@ -18,7 +18,7 @@ pub struct Holding {
     /// Whether it writes them, and not only reads.
     pub write: bool,
     /// The last of the blocks.
-    pub last: u32,
+    pub last: u64,
 }
 
 // Most blocks have one user or two, which take no memory.
@@ -43,14 +43,14 @@ fn is_own(holding: &Holding, pid: Pid, write: bool) -> bool
 }
 
 /// Whether it is this process's use, and has a block that is not before its row.
-fn covers(holding: &Holding, pid: Pid, write: bool, block: u32) -> bool
+fn covers(holding: &Holding, pid: Pid, write: bool, block: u64) -> bool
     ensures { result ≡ (is_own pid write holding.now && has_block block holding.now) }
 {
     is_own(holding, pid, write) && block <= holding.last
 }
 
 /// The last of the blocks that a process uses, where it uses this one.
-fn last_in(holdings: &[Holding], pid: Pid, write: bool, block: u32) -> Option<u32>
+fn last_in(holdings: &[Holding], pid: Pid, write: bool, block: u64) -> Option<u64>
     ensures some { IfSome result (λ last. block ≤ last) }
     ensures uses { IfSome result (λ last. (b : ℕ) → b ≤ last
         → uses pid write b holdings.now ≡ true) }
@@ -65,7 +65,7 @@ fn last_in(holdings: &[Holding], pid: Pid, write: bool, block: u32) -> Option<u3
 }
 
 /// A process's use goes up to this last block, where it is there, and the answer is whether it is.
-fn put_own(holdings: &mut [Holding], pid: Pid, write: bool, last: u32) -> bool
+fn put_own(holdings: &mut [Holding], pid: Pid, write: bool, last: u64) -> bool
     ensures yes { result ≡ true → holdings.new ≡ with_use pid write last holdings.old }
     ensures no { result ≡ false → holdings.new ≡ holdings.old }
     ensures none { result ≡ false → list_any (is_own pid write) holdings.old ≡ false }
@@ -80,7 +80,7 @@ fn put_own(holdings: &mut [Holding], pid: Pid, write: bool, last: u32) -> bool
 }
 
 /// A use that does not go on at a block, which is not the first.
-fn ended(holding: Holding, block: u32) -> Holding
+fn ended(holding: Holding, block: u64) -> Holding
     requires { 0 < block }
     ensures { result ≡ ended block holding }
 {
@@ -96,7 +96,7 @@ fn ended(holding: Holding, block: u32) -> Holding
 }
 
 /// The same of one process's use, and any other one as it is.
-fn own_ended(holding: Holding, pid: Pid, write: bool, block: u32) -> Holding
+fn own_ended(holding: Holding, pid: Pid, write: bool, block: u64) -> Holding
     requires { 0 < block }
     ensures { result ≡ own_ended pid write block holding }
 {
@@ -108,7 +108,7 @@ fn own_ended(holding: Holding, pid: Pid, write: bool, block: u32) -> Holding
 }
 
 /// No use goes on at this block, which is not the first.
-fn end_all(holdings: &mut [Holding], block: u32)
+fn end_all(holdings: &mut [Holding], block: u64)
     requires { 0 < block }
     ensures { holdings.new ≡ map (ended block) holdings.old }
 {
@@ -118,7 +118,7 @@ fn end_all(holdings: &mut [Holding], block: u32)
 }
 
 /// A process's use does not go on at this block, which is not the first.
-fn end_own(holdings: &mut [Holding], pid: Pid, write: bool, block: u32)
+fn end_own(holdings: &mut [Holding], pid: Pid, write: bool, block: u64)
     requires { 0 < block }
     ensures { holdings.new ≡ map (own_ended pid write block) holdings.old }
 {
@@ -138,7 +138,7 @@ impl Row {
     }
 
     /// The last of the blocks that a process uses, where it uses this one.
-    pub fn last_of(&self, pid: Pid, write: bool, block: u32) -> Option<u32>
+    pub fn last_of(&self, pid: Pid, write: bool, block: u64) -> Option<u64>
         ensures some { IfSome result (λ last. block ≤ last) }
         ensures uses { IfSome result (λ last. (b : ℕ) → b ≤ last
             → uses pid write b self.now.holdings.items ≡ true) }
@@ -148,7 +148,7 @@ impl Row {
     }
 
     /// A copy of those whose use goes on at a block. Refused memory is an error.
-    pub fn from_block(&self, heap: Heap, block: u32) -> Result<Row, AllocError>
+    pub fn from_block(&self, heap: Heap, block: u64) -> Result<Row, AllocError>
         ensures { IfOk result (λ row. row.holdings.items
             ≡ filter (has_block block) self.now.holdings.items) }
     {
@@ -163,7 +163,7 @@ impl Row {
 
     /// A process uses the blocks up to this last one. Where its use is there already, it takes no
     /// memory. Refused memory changes nothing.
-    pub fn put(&mut self, pid: Pid, write: bool, last: u32) -> Result<(), AllocError>
+    pub fn put(&mut self, pid: Pid, write: bool, last: u64) -> Result<(), AllocError>
         ensures ok { OnOk result (self.new.holdings.items
             ≡ with_use pid write last self.old.holdings.items) }
         ensures err { OnErr result (self.new.holdings.items ≡ self.old.holdings.items) }
@@ -176,7 +176,7 @@ impl Row {
     }
 
     /// No use goes on at this block, which is not the first. It takes no memory.
-    pub fn end_before(&mut self, block: u32)
+    pub fn end_before(&mut self, block: u64)
         requires { 0 < block }
         ensures { self.new.holdings.items ≡ map (ended block) self.old.holdings.items }
     {
@@ -184,7 +184,7 @@ impl Row {
     }
 
     /// A process's use does not go on at this block, which is not the first. It takes no memory.
-    pub fn end_own_before(&mut self, pid: Pid, write: bool, block: u32)
+    pub fn end_own_before(&mut self, pid: Pid, write: bool, block: u64)
         requires { 0 < block }
         ensures { self.new.holdings.items
             ≡ map (own_ended pid write block) self.old.holdings.items }

@@ -19,7 +19,7 @@ use std::ops::Bound;
 
 /// By the file and the first block, in order: who uses blocks from there on. No use goes on at the
 /// next row's first block, so a block's users stand in the last row that starts at it or before it.
-pub type Rows = BTreeMap<(Num, u32), Row, Heap>;
+pub type Rows = BTreeMap<(Num, u64), Row, Heap>;
 
 /// Whose use it is: a process that reads blocks of a file, or one that writes them.
 #[derive(Clone, Copy, Debug)]
@@ -33,13 +33,13 @@ pub struct User {
 #[derive(Clone, Copy, Debug)]
 pub struct Part {
     /// Its last block.
-    pub last: u32,
+    pub last: u64,
     /// Whether the process uses it.
     pub is_used: bool,
 }
 
 /// Where the row of a block starts. It takes no memory.
-pub fn start_of(rows: &Rows, file: Num, block: u32) -> Option<u32>
+pub fn start_of(rows: &Rows, file: Num, block: u64) -> Option<u64>
     ensures some { IfSome result (IsStartOf (places_of rows.now) file block) }
     ensures none { IfNone result (HaveNoStart (places_of rows.now) file 0 block) }
 {
@@ -53,7 +53,7 @@ pub fn start_of(rows: &Rows, file: Num, block: u32) -> Option<u32>
 }
 
 /// The row of a block. It takes no memory.
-pub fn row_of(rows: &Rows, file: Num, block: u32) -> Option<&Row>
+pub fn row_of(rows: &Rows, file: Num, block: u64) -> Option<&Row>
     ensures { holdings_of (option_copied result) ≡ row_at (places_of rows.now) file block }
 {
     let first = (file, 0);
@@ -65,7 +65,7 @@ pub fn row_of(rows: &Rows, file: Num, block: u32) -> Option<&Row>
 }
 
 /// The first start of a row among these blocks. It takes no memory.
-pub fn first_start(rows: &Rows, file: Num, from: u32, to: u32) -> Option<u32>
+pub fn first_start(rows: &Rows, file: Num, from: u64, to: u64) -> Option<u64>
     requires { from ≤ to }
     ensures some { IfSome result (IsFirstStart (places_of rows.now) file from to) }
     ensures none { IfNone result (HaveNoStart (places_of rows.now) file from to) }
@@ -80,7 +80,7 @@ pub fn first_start(rows: &Rows, file: Num, from: u32, to: u32) -> Option<u32>
 }
 
 /// The first start of a row behind a block, up to a last one. It takes no memory.
-pub fn next_start(rows: &Rows, file: Num, block: u32, last: u32) -> Option<u32>
+pub fn next_start(rows: &Rows, file: Num, block: u64, last: u64) -> Option<u64>
     requires { block ≤ last }
     ensures some { IfSome result (IsFirstStart (places_of rows.now) file (suc block) last) }
     ensures none { IfNone result (HaveNoStart (places_of rows.now) file (suc block) last) }
@@ -94,7 +94,7 @@ pub fn next_start(rows: &Rows, file: Num, block: u32, last: u32) -> Option<u32>
 
 /// The last block before the next start of a row behind a block, up to a last one. It takes no
 /// memory.
-fn end_of(rows: &Rows, file: Num, block: u32, last: u32) -> u32
+fn end_of(rows: &Rows, file: Num, block: u64, last: u64) -> u64
     requires { block ≤ last }
     ensures from { block ≤ result }
     ensures to { result ≤ last }
@@ -108,7 +108,7 @@ fn end_of(rows: &Rows, file: Num, block: u32, last: u32) -> u32
 
 /// The last of the blocks that a process uses in the row of a block, where it uses this one. It
 /// takes no memory.
-fn used_to(rows: &Rows, user: User, block: u32) -> Option<u32>
+fn used_to(rows: &Rows, user: User, block: u64) -> Option<u64>
     ensures some { IfSome result (λ last. block ≤ last) }
     ensures uses { IfSome result (λ last. (b : ℕ) → b ≤ last → uses_in
         (row_at (places_of rows.now) user.file block) user.pid user.write b ≡ true) }
@@ -122,7 +122,7 @@ fn used_to(rows: &Rows, user: User, block: u32) -> Option<u32>
 }
 
 /// What a process uses from a block on, up to a last one. It takes no memory.
-pub fn part_at(rows: &Rows, user: User, block: u32, last: u32) -> Part
+pub fn part_at(rows: &Rows, user: User, block: u64, last: u64) -> Part
     requires { block ≤ last }
     ensures from { block ≤ result.last }
     ensures to { result.last ≤ last }
@@ -146,7 +146,7 @@ pub fn part_at(rows: &Rows, user: User, block: u32, last: u32) -> Part
 }
 
 /// A process uses the blocks from a row's first one up to a last one. Refused memory changes nothing.
-fn put_in(rows: &mut Rows, user: User, start: u32, last: u32) -> Result<(), AllocError>
+fn put_in(rows: &mut Rows, user: User, start: u64, last: u64) -> Result<(), AllocError>
     ensures ok { OnOk result ((hs : List Holding) → places_of rows.old user.file start ≡ Some hs
         → Puts (places_of rows.old) (places_of rows.new) user.file start
         (Some (with_use user.pid user.write last hs))) }
@@ -163,8 +163,8 @@ fn split_row(
     heap: Heap,
     rows: &Rows,
     file: Num,
-    start: u32,
-    block: u32,
+    start: u64,
+    block: u64,
 ) -> Result<Row, AllocError>
     ensures { (hs : List Holding) → places_of rows.now file start ≡ Some hs
         → IfOk result (λ row. row.holdings.items ≡ filter (has_block block) hs) }
@@ -176,7 +176,7 @@ fn split_row(
 }
 
 /// A row starts at a block. Refused memory changes nothing.
-fn insert_row(rows: &mut Rows, file: Num, start: u32, row: Row) -> Result<(), AllocError>
+fn insert_row(rows: &mut Rows, file: Num, start: u64, row: Row) -> Result<(), AllocError>
     ensures ok { OnOk result (Puts (places_of rows.old) (places_of rows.new) file start
         (Some row.holdings.items)) }
     ensures err { OnErr result (SamePlaces (places_of rows.old) (places_of rows.new)) }
@@ -186,7 +186,7 @@ fn insert_row(rows: &mut Rows, file: Num, start: u32, row: Row) -> Result<(), Al
 }
 
 /// No use of a row goes on at a block, which is not the first. It takes no memory.
-fn cut_row(rows: &mut Rows, file: Num, start: u32, block: u32)
+fn cut_row(rows: &mut Rows, file: Num, start: u64, block: u64)
     requires { 0 < block }
     ensures { Puts (places_of rows.old) (places_of rows.new) file start
         (option_map (λ hs. map (ended block) hs) (places_of rows.old file start)) }
@@ -203,8 +203,8 @@ fn open_alone(
     heap: Heap,
     rows: &mut Rows,
     user: User,
-    first: u32,
-    last: u32,
+    first: u64,
+    last: u64,
 ) -> Result<(), AllocError>
     ensures ok { OnOk result (Opens (places_of rows.old) (places_of rows.new) user.file None first
         user.pid user.write last) }
@@ -221,9 +221,9 @@ fn open_behind(
     heap: Heap,
     rows: &mut Rows,
     user: User,
-    start: u32,
-    first: u32,
-    last: u32,
+    start: u64,
+    first: u64,
+    last: u64,
 ) -> Result<(), AllocError>
     requires { start < first }
     ensures ok { OnOk result (Opens (places_of rows.old) (places_of rows.new) user.file (Some start)
@@ -242,9 +242,9 @@ fn enter_behind(
     heap: Heap,
     rows: &mut Rows,
     user: User,
-    start: u32,
-    first: u32,
-    last: u32,
+    start: u64,
+    first: u64,
+    last: u64,
     goes_on: bool,
 ) -> Result<(), AllocError>
     requires { IsStartOf (places_of rows.old) user.file first start }
@@ -268,8 +268,8 @@ pub fn enter_part(
     heap: Heap,
     rows: &mut Rows,
     user: User,
-    first: u32,
-    last: u32,
+    first: u64,
+    last: u64,
     goes_on: bool,
 ) -> Result<(), AllocError>
     ensures ok { OnOk result (IsEntered (places_of rows.old) (places_of rows.new) user.file first last
@@ -283,7 +283,7 @@ pub fn enter_part(
 }
 
 /// A process goes from a row, and the answer is whether nobody is left there. It takes no memory.
-fn leave_in(rows: &mut Rows, user: User, start: u32) -> bool
+fn leave_in(rows: &mut Rows, user: User, start: u64) -> bool
     ensures left { Puts (places_of rows.old) (places_of rows.new) user.file start
         (option_map (λ hs. without_use user.pid user.write hs) (places_of rows.old user.file start)) }
     ensures nobody { result ≡ is_deserted (places_of rows.new user.file start) }
@@ -298,7 +298,7 @@ fn leave_in(rows: &mut Rows, user: User, start: u32) -> bool
 }
 
 /// A process goes from a row, which goes too where nobody is left. It takes no memory.
-fn leave_row(rows: &mut Rows, user: User, start: u32)
+fn leave_row(rows: &mut Rows, user: User, start: u64)
     ensures { Puts (places_of rows.old) (places_of rows.new) user.file start
         (left_of user.pid user.write (places_of rows.old user.file start)) }
 {
@@ -308,7 +308,7 @@ fn leave_row(rows: &mut Rows, user: User, start: u32)
 }
 
 /// A process's use in a row does not go on at a block, which is not the first. It takes no memory.
-fn end_in(rows: &mut Rows, user: User, start: u32, block: u32)
+fn end_in(rows: &mut Rows, user: User, start: u64, block: u64)
     requires { 0 < block }
     ensures { Puts (places_of rows.old) (places_of rows.new) user.file start
         (option_map (λ hs. map (own_ended user.pid user.write block) hs)
@@ -321,7 +321,7 @@ fn end_in(rows: &mut Rows, user: User, start: u32, block: u32)
 }
 
 /// A process's use ends before a block, where it starts before it. It takes no memory.
-fn end_before(rows: &mut Rows, user: User, block: u32)
+fn end_before(rows: &mut Rows, user: User, block: u64)
     ensures { IsEnded (places_of rows.old) (places_of rows.new) user.file block user.pid user.write }
 {
     if block == 0 {
@@ -335,7 +335,7 @@ fn end_before(rows: &mut Rows, user: User, block: u32)
 
 /// A process goes from the rows that start in these blocks. It takes no memory, and a look-up for
 /// each row.
-fn leave_rows(rows: &mut Rows, user: User, first: u32, last: u32)
+fn leave_rows(rows: &mut Rows, user: User, first: u64, last: u64)
     requires { first ≤ last }
     ensures { AreOut (places_of rows.old) (places_of rows.new) user.file first last user.pid user.write }
 {
@@ -351,7 +351,7 @@ fn leave_rows(rows: &mut Rows, user: User, first: u32, last: u32)
 
 /// A process does not use these blocks any more, and none behind them in a row that starts in them.
 /// It takes no memory, and a look-up for each row.
-pub fn leave_blocks(rows: &mut Rows, user: User, first: u32, last: u32)
+pub fn leave_blocks(rows: &mut Rows, user: User, first: u64, last: u64)
     requires { first ≤ last }
     ensures { IsLeft (places_of rows.old) (places_of rows.new) user.file first last user.pid user.write }
 {

@@ -9,10 +9,10 @@ pub struct Blocks {
     /// The file.
     pub file: Num,
     /// The first block.
-    pub first: u32,
+    pub first: u64,
     /// How many blocks.
-    pub count: u32,
+    pub count: u64,
     /// Whether they are written, and not only read.
     pub write: bool,
-    ghost in_range: { first + count ≤ 2 ^ 32 },
+    ghost in_range: { first + count ≤ 2 ^ 64 },
 }

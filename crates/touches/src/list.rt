@@ -73,11 +73,11 @@ impl Touches {
     pub fn push_blocks(
         &mut self,
         file: Num,
-        first: u32,
-        count: u32,
+        first: u64,
+        count: u64,
         write: bool,
     ) -> Result<(), AllocError>
-        requires { first + count ≤ 2 ^ 32 }
+        requires { first + count ≤ 2 ^ 64 }
         ensures { OnOk result (self.new
             ≡ self.old ++ touching write (map (Block file) (rising first count))) }
     {

@@ -16,7 +16,7 @@ pub enum Touched {
 
 impl Touched {
     /// How many touches these are.
-    pub fn count(&self) -> u32
+    pub fn count(&self) -> u64
         ensures { result ≡ length (touches_of self.now) }
     {
         match self {

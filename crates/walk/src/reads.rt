@@ -63,8 +63,8 @@ impl Reads {
     }
 
     /// So many blocks of a file from one on. Where reads do not count it takes no memory.
-    pub fn add_blocks(&mut self, file: Num, first: u32, count: u32) -> Result<(), AllocError>
-        requires { first + count ≤ 2 ^ 32 }
+    pub fn add_blocks(&mut self, file: Num, first: u64, count: u64) -> Result<(), AllocError>
+        requires { first + count ≤ 2 ^ 64 }
         ensures { OnOk result (self.new
             ≡ noting self.old (map (Block file) (rising first count))) }
     {
