@@ -139,7 +139,7 @@ pub(crate) fn fork<L: Look>(heap: Heap, look: &L, pid: Pid) -> Result<Change, Re
     ensures { TellsIn (L.state look.now) (plan (own (L.state look.now) pid Fork) Fork) result }
 {
     let birth = look.birth(pid)?;
-    must_be_below(birth.0 as u64, MAX_PROCESSES, Errno::EAGAIN)?;
+    must_be_below(u64::from(birth.0), u64::from(MAX_PROCESSES), Errno::EAGAIN)?;
     let pipes = pipes(heap, look, pid)?;
     changed_by(
         heap,

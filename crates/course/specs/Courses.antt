@@ -1,7 +1,7 @@
 -- The course of each kind of request, below the tables of a mount: paths and descriptors are known.
 -- Linux follows symbolic links itself, so what a path gives is told by `lstat`, which leaves a link in
 -- the last place alone; and a path that leads through a link leads no more where it led.
-use Rattle.std.specs.Prelude.{◌≡◌, ℕ, ◌==◌, ◌||◌, not, List, [], Bool, true, false, ℤ, pos}
+use Rattle.std.specs.Prelude.{ℕ, ◌^◌, ◌==◌, ◌||◌, nat_lt, not, List, [], Bool, true, false, ℤ, pos}
 use Rattle.std.specs.Prelude.{Option, Some, None, Result, Ok, Err}
 use Rattle.std.specs.Prelude.{if◌then◌else◌}
 use Rattle.ids.specs.declared.call.Call.TheVariants as call
@@ -184,13 +184,15 @@ abbrev pub writing : ℕ → ℕ → List ℕ → ℤ → Course (Result ℕ Fau
 writing pid fd bytes offset =
     calling pid (call.Pwrite fd bytes offset) >>= (λ r. Give (count_in r))
 
--- a length as an offset
-abbrev pub IsOffset : ℤ → ℕ → Type 0
-IsOffset offset length = offset ≡ pos length
+-- behind so many bytes; no offset is as large as 2^63
+abbrev pub writing_behind : ℕ → ℕ → List ℕ → ℕ → Course (Result ℕ Fault)
+writing_behind pid fd bytes size =
+    if nat_lt size (2 ^ 63) then writing pid fd bytes (pos size)
+    else Give (Err (fault.Refused errno.EFBIG))
 
 abbrev pub appending : ℕ → ℕ → List ℕ → Course (Result ℕ Fault)
 appending pid fd bytes =
-    stating pid (call.Fstat fd) >>= on_ok (λ stat. writing pid fd bytes (pos stat.size))
+    stating pid (call.Fstat fd) >>= on_ok (λ stat. writing_behind pid fd bytes stat.size)
 
 -- Bytes that are read of a file, so many at most, are put into one.
 abbrev pub copying : ℕ → ℕ → ℕ → ℤ → ℕ → ℤ → Course (Result ℕ Fault)

@@ -95,7 +95,7 @@ pub(crate) fn count_in(reply: Reply) -> Result<u32, Fault>
 }
 
 // The offset that was found.
-pub(crate) fn place_in(reply: Reply) -> Result<u32, Fault>
+pub(crate) fn place_in(reply: Reply) -> Result<u64, Fault>
     ensures { result ≡ place_in reply }
 {
     match &reply {

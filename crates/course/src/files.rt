@@ -4,9 +4,9 @@ ghost use Rattle.ids.specs.declared.call.Call.TheVariants as asked;
 ghost use Rattle.course.specs.Hands.{bound};
 ghost use Rattle.course.specs.Course.{Ran};
 ghost use Rattle.course.specs.Courses.{appending, both, checking, closing, copying, creating, doing};
-ghost use Rattle.course.specs.Courses.{IsOffset, fresh, if_there, opening, opening_file, opening_this};
+ghost use Rattle.course.specs.Courses.{fresh, if_there, opening, opening_file, opening_this};
 ghost use Rattle.course.specs.Courses.{placing, reading, seeing, seeing_new};
-ghost use Rattle.course.specs.Courses.{closing_for, stating, writing};
+ghost use Rattle.course.specs.Courses.{closing_for, stating, writing, writing_behind};
 ghost use Rattle.course.specs.Faults.{is_special, is_there, unless_aborted, unless_special};
 
 use crate::fault::{Fault, bytes_in, count_in, fd_in, place_in};
@@ -243,7 +243,7 @@ pub(crate) fn create<K: Machine>(
 }
 
 // Cuts or grows the file of a descriptor.
-pub(crate) fn set_length<K: Machine>(hand: &mut Hand<K>, fd: Fd, length: u32) -> Result<(), Fault>
+pub(crate) fn set_length<K: Machine>(hand: &mut Hand<K>, fd: Fd, length: u64) -> Result<(), Fault>
     ensures bound { bound hand.new ≡ bound hand.old }
     ensures ran { Ran hand.old.shown
         (doing hand.old.pid (asked.Ftruncate fd length)) result hand.new.shown }
@@ -255,7 +255,7 @@ pub(crate) fn set_length<K: Machine>(hand: &mut Hand<K>, fd: Fd, length: u32) ->
 pub(crate) fn set_length_at<K: Machine>(
     hand: &mut Hand<K>,
     path: Bytes,
-    length: u32,
+    length: u64,
 ) -> Result<(), Fault>
     ensures bound { bound hand.new ≡ bound hand.old }
     ensures ran { Ran hand.old.shown
@@ -305,11 +305,24 @@ pub fn write<K: Machine>(
     count_in(reply)
 }
 
-// A length as an offset.
-fn offset_of(size: u32) -> i64
-    ensures { IsOffset result size }
+// Puts bytes behind so many of a file. Where no offset is so large, none is put.
+fn write_behind<K: Machine>(
+    hand: &mut Hand<K>,
+    fd: Fd,
+    bytes: Bytes,
+    size: u64,
+) -> Result<u32, Fault>
+    ensures bound { bound hand.new ≡ bound hand.old }
+    ensures ran { Ran hand.old.shown
+        (writing_behind hand.old.pid fd bytes size) result hand.new.shown }
 {
-    i64::from(size)
+    match i64::try_from(size) {
+        Ok(offset) => write(hand, fd, bytes, offset),
+        Err(_) => {
+            drop(bytes);
+            Err(Fault::Refused(Errno::EFBIG))
+        }
+    }
 }
 
 /// Puts bytes at the end of the file of a descriptor. It gives how many.
@@ -319,7 +332,7 @@ pub fn append<K: Machine>(hand: &mut Hand<K>, fd: Fd, bytes: Bytes) -> Result<u3
         (appending hand.old.pid fd bytes) result hand.new.shown }
 {
     let stat = hand.stat_call(Call::Fstat(fd))?;
-    write(hand, fd, bytes, offset_of(stat.size))
+    write_behind(hand, fd, bytes, stat.size)
 }
 
 /// Keeps a range of the file of a descriptor for it, or makes zeros of it.
@@ -344,7 +357,7 @@ pub fn seek<K: Machine>(
     fd: Fd,
     offset: i64,
     whence: Whence,
-) -> Result<u32, Fault>
+) -> Result<u64, Fault>
     ensures bound { bound hand.new ≡ bound hand.old }
     ensures ran { Ran hand.old.shown
         (placing hand.old.pid fd offset whence) result hand.new.shown }

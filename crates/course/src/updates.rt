@@ -20,7 +20,7 @@ use machine::Machine;
 #[derive(Clone, Copy, Debug)]
 pub struct Update {
     /// The length of a file.
-    pub length: Option<u32>,
+    pub length: Option<u64>,
     /// The owner. With it set-user-ID and set-group-ID go, but of a directory.
     pub owner: Option<NewOwner>,
     /// The permissions, which a symbolic link does not have.
@@ -42,7 +42,7 @@ pub struct Paths {
 
 // ---- by a descriptor
 
-fn size_open<K: Machine>(hand: &mut Hand<K>, fd: Fd, length: Option<u32>) -> Result<(), Fault>
+fn size_open<K: Machine>(hand: &mut Hand<K>, fd: Fd, length: Option<u64>) -> Result<(), Fault>
     ensures bound { bound hand.new ≡ bound hand.old }
     ensures ran { Ran hand.old.shown
         (sizing_open hand.old.pid fd length) result hand.new.shown }
@@ -105,7 +105,7 @@ fn update_open<K: Machine>(hand: &mut Hand<K>, fd: Fd, update: Update) -> Result
 
 // ---- by a path
 
-fn size_at<K: Machine>(hand: &mut Hand<K>, path: Bytes, length: Option<u32>) -> Result<(), Fault>
+fn size_at<K: Machine>(hand: &mut Hand<K>, path: Bytes, length: Option<u64>) -> Result<(), Fault>
     ensures bound { bound hand.new ≡ bound hand.old }
     ensures ran { Ran hand.old.shown
         (sizing_at hand.old.pid path length) result hand.new.shown }

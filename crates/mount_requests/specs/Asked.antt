@@ -32,7 +32,7 @@ has_flag flags flag = not (bit_and flags flag == 0)
 -- a length that is set, which files may have
 abbrev pub length_in : Option ℕ → Result (Option ℕ) Failure
 length_in (Some size) =
-    if nat_lt size (2 ^ 32) then Ok (Some size) else Err (error errno.EFBIG)
+    if nat_lt size (2 ^ 63) then Ok (Some size) else Err (error errno.EFBIG)
 length_in None = Ok None
 
 -- The owner that is set, where a user or a group is named. Where set-user-ID and set-group-ID are to

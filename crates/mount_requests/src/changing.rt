@@ -23,16 +23,16 @@ pub(crate) struct Setting {
 }
 
 // A length that is set, which files may have.
-fn length_in(size: Option<u64>) -> Result<Option<u32>, Failure>
+fn length_in(size: Option<u64>) -> Result<Option<u64>, Failure>
     ensures { result ≡ length_in size }
 {
     let Some(size) = size else {
         return Ok(None);
     };
-    match u32::try_from(size) {
-        Ok(length) => Ok(Some(length)),
-        Err(_) => Err(Failure::Error(Errno::EFBIG)),
+    if size > i64::MAX as u64 {
+        return Err(Failure::Error(Errno::EFBIG));
     }
+    Ok(Some(size))
 }
 
 // The owner that is set, where a user or a group is named. Where set-user-ID and set-group-ID are to go
@@ -62,7 +62,7 @@ fn permissions_by(mode: Option<u32>) -> Option<Permissions>
 
 // What is set, if anything is.
 fn update_of(
-    length: Option<u32>,
+    length: Option<u64>,
     owner: Option<NewOwner>,
     permissions: Option<Permissions>,
 ) -> Option<Update>

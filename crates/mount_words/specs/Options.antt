@@ -25,7 +25,7 @@ abbrev pub file_limit_rule : Rule
 file_limit_rule = record (new_rule (codes "file_limit")) {
   long = Some (codes "file-limit");
   action = Some Set;
-  parser = Some (Signed (pos 0) (pos MAX_FILE_LIMIT));
+  parser = Some (Unsigned 0 MAX_FILE_LIMIT);
   value_names = 1;
 }
 
@@ -57,7 +57,7 @@ IsLimit default most text limit = IsMost 32 default most text limit
 -- path.
 pub record AreLimits (number : Text → Option Text) (limits : Limits) : Type 0 where
   pub entries : IsLimit DEFAULT_LIMIT MAX_LIMIT (number (codes "limit")) limits.entries
-  pub files : IsLimit MAX_FILE_LIMIT MAX_FILE_LIMIT (number (codes "file_limit")) limits.file_bytes
+  pub files : IsMost 64 MAX_FILE_LIMIT MAX_FILE_LIMIT (number (codes "file_limit")) limits.file_bytes
   pub descriptors : limits.descriptors ≡ MOUNT_DESCRIPTORS
   pub paths : limits.path_bytes ≡ MOUNT_PATH_LIMIT
 

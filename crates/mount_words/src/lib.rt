@@ -24,7 +24,7 @@ pub const DEFAULT_LIMIT: u32 = 65_536;
 pub const MAX_LIMIT: u32 = 1_048_576;
 
 /// The most bytes that a file may have: the largest value of `--file-limit`, and where it is not given.
-pub const MAX_FILE_LIMIT: u32 = 2_147_483_647;
+pub const MAX_FILE_LIMIT: u64 = 9_223_372_036_854_775_807;
 
 /// How many descriptors each process of the mount's kernel may have: a process of the plain tree has so
 /// many files open at most, and so has a transaction.
@@ -133,9 +133,9 @@ fn file_limit_arg<'a>(alloc: Global) -> Arg<'a>
     Arg::new(alloc, "file_limit")
         .long("file-limit")
         .value_name("N")
-        .help("The most bytes of a file, at most 2147483647, and that where it is not given")
+        .help("The most bytes of a file, at most 9223372036854775807, and that where it is not given")
         .action(ArgAction::Set)
-        .value_parser(clap::value_parser!(u32).range(0..=MAX_FILE_LIMIT as i64))
+        .value_parser(ValueParser::unsigned(0, MAX_FILE_LIMIT))
 }
 
 // `--bytes N`
@@ -209,9 +209,21 @@ fn limits_of(matches: &ArgMatches) -> Limits
 {
     Limits {
         entries: limit_of(matches, "limit", DEFAULT_LIMIT, MAX_LIMIT) as usize,
-        file_bytes: limit_of(matches, "file_limit", MAX_FILE_LIMIT, MAX_FILE_LIMIT),
+        file_bytes: file_limit_of(matches),
         descriptors: MOUNT_DESCRIPTORS,
         path_bytes: MOUNT_PATH_LIMIT,
+    }
+}
+
+// The most bytes of a file that the matches give.
+fn file_limit_of(matches: &ArgMatches) -> u64
+    ensures value { IsMost 64 MAX_FILE_LIMIT MAX_FILE_LIMIT
+        (one_text (found_of matches.now) (codes "file_limit")) result }
+    ensures small { result ≤ MAX_FILE_LIMIT }
+{
+    match matches.get_one::<u64>("file_limit") {
+        Some(limit) => limit.min(MAX_FILE_LIMIT),
+        None => MAX_FILE_LIMIT,
     }
 }
 

@@ -27,6 +27,10 @@ offset_in (b ∷ bs) =
     if b == minus then below_zero (decimal_in (2 ^ 63) bs)
     else from_zero (decimal_in (2 ^ 63 - 1) (b ∷ bs))
 
+-- the length of a file
+abbrev pub length_in : List ℕ → Option ℕ
+length_in word = decimal_in (2 ^ 63 - 1) word
+
 -- the value of a hexadecimal digit in lower case: of `0` to `9` and `a` to `f`
 abbrev pub hex_in : ℕ → Option ℕ
 hex_in digit =

@@ -4,7 +4,7 @@ use Rattle.std.specs.Prelude.{Option, Some, None, codes, replicate, option_map, 
 use Rattle.std.specs.Option.{option_and_then}
 use Rattle.std.specs.Str.{bytes_eq}
 use Rattle.script.specs.Pieces.{one_of, two_of, three_of, four_of}
-use Rattle.script.specs.Numbers.{decimal_in, offset_in, byte_in}
+use Rattle.script.specs.Numbers.{decimal_in, offset_in, byte_in, length_in}
 use Rattle.script.specs.Rights.{id_in, permissions_in}
 use Rattle.script.specs.Texts.{text_in}
 use Rattle.script.specs.Flags.{flags_in, begin_flags, begin_flags_in, space_in, special_in, whence_in}
@@ -102,7 +102,7 @@ fd_arguments fd_verb.Pread args =
 fd_arguments fd_verb.Lseek args =
     option_map (λ p. op.Call (call.Lseek p.0 p.1 p.2)) (three fd_in offset_in whence_in args)
 fd_arguments fd_verb.Ftruncate args =
-    option_map (λ p. op.Call (call.Ftruncate p.0 p.1)) (two fd_in number_in args)
+    option_map (λ p. op.Call (call.Ftruncate p.0 p.1)) (two fd_in length_in args)
 fd_arguments fd_verb.Fallocate args =
     option_map (λ p. op.Call (call.Fallocate p.0 p.1 p.2 p.3))
     (four fd_in offset_in offset_in space_in args)
@@ -156,7 +156,7 @@ arguments verb.Pfill args =
     option_map (λ p. op.Call (call.Pwrite p.0 (replicate p.1 p.2) p.3))
     (four fd_in (decimal_in TRANSFER_LIMIT) byte_in offset_in args)
 arguments verb.Truncate args =
-    option_map (λ p. op.Call (call.Truncate p.0 p.1)) (two text_in number_in args)
+    option_map (λ p. op.Call (call.Truncate p.0 p.1)) (two text_in length_in args)
 arguments verb.Mknod args =
     option_map (λ p. op.Call (call.Mknod p.0 p.1)) (two text_in special_in args)
 arguments verb.Chmod args =

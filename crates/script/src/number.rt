@@ -1,7 +1,7 @@
 // Numbers in their spelling.
 ghost use Rattle.std.specs.Prelude.{◌≡◌, ◌≤◌, ◌<◌, IfNone, IfSome};
 ghost use Rattle.std.specs.Str.Parse.{AllDigits, digits_value};
-ghost use Rattle.script.specs.Numbers.{hex_in, byte_in, decimal_in, offset_in};
+ghost use Rattle.script.specs.Numbers.{hex_in, byte_in, decimal_in, length_in, offset_in};
 
 // The number that digits write, if it is at most that, and there are no other bytes.
 fn digits_in(word: &[u8], most: u64) -> Option<u64>
@@ -47,6 +47,13 @@ pub(crate) fn number_in(word: &[u8], most: u32) -> Option<u32>
         Some(n) => Some(n as u32),
         None => None,
     }
+}
+
+// The length of a file, at most 9223372036854775807.
+pub(crate) fn length_in(word: &[u8]) -> Option<u64>
+    ensures { result ≡ length_in word.now }
+{
+    decimal_in(word, i64::MAX as u64)
 }
 
 // An offset from -9223372036854775808 to 9223372036854775807.

@@ -3,7 +3,7 @@ ghost use Rattle.std.specs.Prelude.{◌≡◌, Some, replicate};
 ghost use Rattle.script.specs.Operations.{abort_of, arguments, bare_arguments};
 ghost use Rattle.script.specs.Operations.{begin_of, fd_arguments, fd_in, four, on_path};
 ghost use Rattle.script.specs.Operations.{one, path_arguments, paths_arguments, three, two};
-ghost use Rattle.script.specs.Numbers.{byte_in, decimal_in, offset_in};
+ghost use Rattle.script.specs.Numbers.{byte_in, decimal_in, length_in, offset_in};
 ghost use Rattle.script.specs.Rights.{id_in, permissions_in};
 ghost use Rattle.script.specs.Texts.{text_in};
 ghost use Rattle.script.specs.Flags.{flags_in, space_in, special_in, whence_in};
@@ -11,7 +11,7 @@ ghost use Rattle.script.specs.Words.{Reads};
 
 use crate::flags::{begin_flags_in, flags_in, space_in, special_in, whence_in};
 use crate::limits::TRANSFER_LIMIT;
-use crate::number::{byte_in, number_in, offset_in};
+use crate::number::{byte_in, length_in, number_in, offset_in};
 use crate::pieces::Pieces;
 use crate::rights::{id_in, permissions_in};
 use crate::text::text_in;
@@ -62,6 +62,14 @@ fn fd_and_number(args: &mut Pieces<'_>, most: u32) -> Option<(Fd, u32)>
 {
     let (fd, n) = args.two()?;
     Some((fd_in(fd)?, number_in(n, most)?))
+}
+
+// A descriptor and a length.
+fn fd_and_length(args: &mut Pieces<'_>) -> Option<(Fd, u64)>
+    ensures { result ≡ two fd_in length_in args.old }
+{
+    let (fd, length) = args.two()?;
+    Some((fd_in(fd)?, length_in(length)?))
 }
 
 // A descriptor, a count and an offset.
@@ -184,8 +192,8 @@ fn fd_arguments(verb: FdVerb, args: &mut Pieces<'_>) -> Option<Op>
             Call::Lseek(fd, offset, whence)
         }
         FdVerb::Ftruncate => {
-            let (fd, len) = fd_and_number(args, u32::MAX)?;
-            Call::Ftruncate(fd, len)
+            let (fd, length) = fd_and_length(args)?;
+            Call::Ftruncate(fd, length)
         }
         FdVerb::Fallocate => {
             let (fd, offset, length, space) = fallocate_of(args)?;
@@ -339,7 +347,7 @@ fn truncate_arguments(heap: Heap, args: &mut Pieces<'_>) -> Result<Op, WordFault
     let Some((path, length)) = args.two() else {
         return Err(WordFault::Malformed);
     };
-    let Some(length) = number_in(length, u32::MAX) else {
+    let Some(length) = length_in(length) else {
         return Err(WordFault::Malformed);
     };
     Ok(Op::Call(Call::Truncate(text_in(heap, path)?, length)))

@@ -73,13 +73,13 @@ fn put_numbers<S: Sink, const N: usize>(
     out: &mut Printer<'_, S>,
     word: &[u8; N],
     first: u32,
-    second: u32,
+    second: u64,
 )
     requires { CanPrint S.failures out.old }
     ensures { Prints S.written S.failures out.old out.new (numbers_text word.now first second) }
 {
     out.put_number(word, first);
-    out.put_number(b" ", second);
+    out.put_long(b" ", second);
 }
 
 fn put_open<S: Sink>(out: &mut Printer<'_, S>, path: &Bytes, flags: OpenFlags)
@@ -97,7 +97,7 @@ fn put_pread<S: Sink>(out: &mut Printer<'_, S>, fd: u32, count: u32, offset: i64
     ensures { Prints S.written S.failures out.old out.new
         (numbers_text (codes "pread ") fd count ++ codes " " ++ signed_decimal offset) }
 {
-    put_numbers(out, b"pread ", fd, count);
+    put_numbers(out, b"pread ", fd, u64::from(count));
     out.put_word(b" ");
     out.put_signed(offset);
 }
@@ -153,13 +153,13 @@ fn put_fallocate<S: Sink>(out: &mut Printer<'_, S>, fd: u32, offset: i64, length
     out.put(space_text(space));
 }
 
-fn put_truncate<S: Sink>(out: &mut Printer<'_, S>, path: &Bytes, size: u32)
+fn put_truncate<S: Sink>(out: &mut Printer<'_, S>, path: &Bytes, size: u64)
     requires { CanPrint S.failures out.old }
     ensures { Prints S.written S.failures out.old out.new
         (codes "truncate " ++ text_of path.now ++ codes " " ++ decimal size) }
 {
     put_path(out, b"truncate ", path);
-    out.put_number(b" ", size);
+    out.put_long(b" ", size);
 }
 
 fn put_mknod<S: Sink>(out: &mut Printer<'_, S>, path: &Bytes, special: Special)
@@ -217,7 +217,7 @@ fn put_call<S: Sink>(out: &mut Printer<'_, S>, call: &Call)
     match call {
         Call::Open(path, flags) => put_open(out, path, *flags),
         Call::Close(fd) => out.put_number(b"close ", fd.0),
-        Call::Read(fd, count) => put_numbers(out, b"read ", fd.0, *count),
+        Call::Read(fd, count) => put_numbers(out, b"read ", fd.0, u64::from(*count)),
         Call::Pread(fd, count, offset) => put_pread(out, fd.0, *count, *offset),
         Call::Write(fd, bytes) => put_bytes(out, b"write ", fd.0, bytes),
         Call::Pwrite(fd, bytes, offset) => put_pwrite(out, fd.0, bytes, *offset),
@@ -245,7 +245,7 @@ fn put_call<S: Sink>(out: &mut Printer<'_, S>, call: &Call)
         Call::Fchmod(fd, permissions) => put_fchmod(out, fd.0, *permissions),
         Call::Fchown(fd, owner) => put_fchown(out, fd.0, *owner),
         Call::Dup(fd) => out.put_number(b"dup ", fd.0),
-        Call::Dup2(old, new) => put_numbers(out, b"dup2 ", old.0, new.0),
+        Call::Dup2(old, new) => put_numbers(out, b"dup2 ", old.0, u64::from(new.0)),
         Call::Pipe => out.put_word(b"pipe"),
         Call::Fork => out.put_word(b"fork"),
         Call::Exit => out.put_word(b"exit"),

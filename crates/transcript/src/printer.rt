@@ -179,8 +179,16 @@ impl<'a, S: Sink> Printer<'a, S> {
         requires { CanPrint S.failures self.old }
         ensures { Prints S.written S.failures self.old self.new (word.now ++ decimal n) }
     {
+        self.put_long(word, u64::from(n));
+    }
+
+    // The same of a number of 64 bits.
+    pub(crate) fn put_long<const N: usize>(&mut self, word: &[u8; N], n: u64)
+        requires { CanPrint S.failures self.old }
+        ensures { Prints S.written S.failures self.old self.new (word.now ++ decimal n) }
+    {
         self.put_word(word);
-        self.put_decimal(u64::from(n));
+        self.put_decimal(n);
     }
 
     // Prints a number that may be below 0.

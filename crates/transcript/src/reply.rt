@@ -28,7 +28,7 @@ fn put_aspect<S: Sink>(out: &mut Printer<'_, S>, aspect: &Aspect)
         Aspect::Entry(_, name) => put_entry(out, name),
         Aspect::Names(_) => out.put_word(b"names"),
         Aspect::Size(_) => out.put_word(b"size"),
-        Aspect::Block(_, block) => out.put_number(b"block ", *block),
+        Aspect::Block(_, block) => out.put_long(b"block ", *block),
         Aspect::Links(_) => out.put_word(b"links"),
         Aspect::Ends(_) => out.put_word(b"ends"),
         Aspect::Offset(_) => out.put_word(b"offset"),
@@ -89,7 +89,7 @@ fn put_stat<S: Sink>(out: &mut Printer<'_, S>, stat: &Stat)
     ensures { Prints S.written S.failures out.old out.new (stat_text stat.now) }
 {
     put_kind(out, stat.kind);
-    out.put_number(b" size ", stat.size);
+    out.put_long(b" size ", stat.size);
     out.put_number(b" links ", stat.links);
     put_rights(out, stat.kind, stat.rights);
 }
@@ -141,7 +141,7 @@ fn put_answer<S: Sink>(out: &mut Printer<'_, S>, answer: &Answer)
         Answer::Done => out.put_word(b"ok"),
         Answer::Fd(fd) => out.put_decimal(u64::from(fd.0)),
         Answer::Count(count) => out.put_decimal(u64::from(*count)),
-        Answer::Place(offset) => out.put_decimal(u64::from(*offset)),
+        Answer::Place(offset) => out.put_decimal(*offset),
         Answer::Bytes(bytes) => put_counted(out, bytes.as_slice()),
         Answer::Pair(reader, writer) => put_pair(out, reader.0, writer.0),
         Answer::Stat(stat) => put_stat(out, stat),

@@ -8,7 +8,7 @@ use Rattle.std.specs.declared.num.ParseIntError.{ParseIntError}
 use Rattle.clap.specs.Words.{App, Rule, Text, IsAmong, fault_of, first_of}
 use Rattle.clap.specs.Words.{kind_of, matches_of, new_app, new_rule, one_of, with_rule}
 use Rattle.clap.specs.declared.builder.ArgAction.TheVariants.{Set, SetTrue}
-use Rattle.clap.specs.declared.builder.value_parser.ValueParser.TheVariants.{Signed}
+use Rattle.clap.specs.declared.builder.value_parser.ValueParser.TheVariants.{Signed, Unsigned}
 use Rattle.clap.specs.declared.error.Error.{Error}
 use Rattle.clap.specs.declared.error.kind.ErrorKind.TheVariants.{DisplayHelp, OutOfMemory}
 use Rattle.words.specs.declared.TheConstants.{DEFAULT_DESCRIPTORS, DEFAULT_FILE_LIMIT}
@@ -56,7 +56,7 @@ abbrev pub file_limit_rule : Rule
 file_limit_rule = record (new_rule (codes "file_limit")) {
   long = Some (codes "file-limit");
   action = Some Set;
-  parser = Some (Signed (pos 1) (pos MAX_FILE_LIMIT));
+  parser = Some (Unsigned 1 MAX_FILE_LIMIT);
   value_names = 1;
 }
 
@@ -138,13 +138,17 @@ HasNotOneWay value number =
     × (IsSet (number (codes "threads")) → ⊥)
     × (IsSet (number (codes "stream")) → ⊥))))
 
--- the number that the text reads as, at most `most`; the default where there is none
-abbrev pub IsLimit : (default most : ℕ) → Option Text → ℕ → Type 0
-IsLimit default most None limit = limit ≡ default
-IsLimit default most (Some text) limit =
+-- the number of so many bits that the text reads as, at most `most`; the default where there is none
+abbrev pub IsMost : (bits default most : ℕ) → Option Text → ℕ → Type 0
+IsMost bits default most None limit = limit ≡ default
+IsMost bits default most (Some text) limit =
     (read : Result ℕ ParseIntError)
-    × ParsesUnsigned 32 10 text read
+    × ParsesUnsigned bits 10 text read
     × (limit ≡ min (result_unwrap_or read default) most)
+
+-- the same of a number of 32 bits
+abbrev pub IsLimit : (default most : ℕ) → Option Text → ℕ → Type 0
+IsLimit default most text limit = IsMost 32 default most text limit
 
 -- the limits of a job, and whether to check, as a stream has them
 abbrev pub limits_in : Job → StreamJob
@@ -160,7 +164,7 @@ limits_in job = record {
 pub record HasLimits (number : Text → Option Text) (given : StreamJob) : Type 0 where
   pub limit : IsLimit DEFAULT_LIMIT MAX_LIMIT (number (codes "limit")) given.limit
   pub file_limit :
-      IsLimit DEFAULT_FILE_LIMIT MAX_FILE_LIMIT (number (codes "file_limit")) given.file_limit
+      IsMost 64 DEFAULT_FILE_LIMIT MAX_FILE_LIMIT (number (codes "file_limit")) given.file_limit
   pub descriptors :
       IsLimit DEFAULT_DESCRIPTORS MAX_DESCRIPTORS (number (codes "descriptors")) given.descriptors
   pub path_limit :

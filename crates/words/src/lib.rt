@@ -5,13 +5,15 @@
 
 ghost use Rattle.std.specs.Prelude.{◌≡◌, ◌≤◌, [], false, IfOk, IfErr, codes, string_bytes};
 ghost use Rattle.clap.specs.Words.{app_of, fault_of, first_value, found_of, one_text, rule_of};
-ghost use Rattle.words.specs.Txsh.{AreSmall, HasLimits, IsFaultOf, IsFlag, IsLimit, IsParseFault};
+ghost use Rattle.words.specs.Txsh.{AreSmall, HasLimits, IsFaultOf, IsFlag, IsLimit, IsMost};
+ghost use Rattle.words.specs.Txsh.{IsParseFault};
 ghost use Rattle.words.specs.Txsh.{IsReportedAs, IsSmall, IsTask, IsTaskFault, IsWayOrNone};
 ghost use Rattle.words.specs.Txsh.{SameMatches, check_rule, descriptors_rule, file_limit_rule};
 ghost use Rattle.words.specs.Txsh.{file_rule, limit_rule, limits_in, path_limit_rule, number_in};
 ghost use Rattle.words.specs.Txsh.{schedule_rule, status_of, stream_rule, texts};
 ghost use Rattle.words.specs.Txsh.{threads_rule, txsh, value_in};
 
+use clap::builder::ValueParser;
 use clap::error::ErrorKind;
 use clap::{Arg, ArgAction, ArgMatches, Command, Error};
 use heap::Heap;
@@ -25,10 +27,10 @@ pub const MAX_LIMIT: u32 = 1_048_576;
 pub const DEFAULT_LIMIT: u32 = 65_536;
 
 /// The most bytes that a file may be given room for: the largest value of `--file-limit`.
-pub const MAX_FILE_LIMIT: u32 = 2_147_483_647;
+pub const MAX_FILE_LIMIT: u64 = 9_223_372_036_854_775_807;
 
 /// How many bytes a file may have where `--file-limit` is not given.
-pub const DEFAULT_FILE_LIMIT: u32 = 1_048_576;
+pub const DEFAULT_FILE_LIMIT: u64 = 1_048_576;
 
 /// The most descriptors that a process may be given: the largest value of `--descriptors`.
 pub const MAX_DESCRIPTORS: u32 = 1_048_576;
@@ -75,7 +77,7 @@ pub struct StreamJob {
     /// How many entries are kept between two answers, at most [`MAX_LIMIT`].
     pub limit: u32,
     /// How many bytes a file may have, at most [`MAX_FILE_LIMIT`].
-    pub file_limit: u32,
+    pub file_limit: u64,
     /// How many descriptors a process may have, at most [`MAX_DESCRIPTORS`].
     pub descriptors: u32,
     /// How many bytes a path may have, at most [`MAX_PATH_LIMIT`].
@@ -92,7 +94,7 @@ pub struct Job {
     /// How many entries the history may have, at most [`MAX_LIMIT`].
     pub limit: u32,
     /// How many bytes a file may have, at most [`MAX_FILE_LIMIT`].
-    pub file_limit: u32,
+    pub file_limit: u64,
     /// How many descriptors a process may have, at most [`MAX_DESCRIPTORS`].
     pub descriptors: u32,
     /// How many bytes a path may have, at most [`MAX_PATH_LIMIT`].
@@ -233,9 +235,9 @@ fn file_limit_arg<'a>(alloc: Global) -> Arg<'a>
     Arg::new(alloc, "file_limit")
         .long("file-limit")
         .value_name("N")
-        .help("The most bytes of a file, at most 2147483647; 1048576 where it is not given")
+        .help("The most bytes of a file, at most 9223372036854775807; 1048576 where it is not given")
         .action(ArgAction::Set)
-        .value_parser(clap::value_parser!(u32).range(1..=MAX_FILE_LIMIT as i64))
+        .value_parser(ValueParser::unsigned(1, MAX_FILE_LIMIT))
 }
 
 // `--descriptors N`
@@ -349,6 +351,18 @@ fn limit_of(matches: &ArgMatches, id: &str, default: u32, most: u32) -> u32
     }
 }
 
+// The same of the most bytes of a file.
+fn file_limit_of(matches: &ArgMatches) -> u64
+    ensures value { IsMost 64 DEFAULT_FILE_LIMIT MAX_FILE_LIMIT
+        (one_text (found_of matches.now) (codes "file_limit")) result }
+    ensures small { result ≤ MAX_FILE_LIMIT }
+{
+    match matches.get_one::<u64>("file_limit") {
+        Some(limit) => limit.min(MAX_FILE_LIMIT),
+        None => DEFAULT_FILE_LIMIT,
+    }
+}
+
 // Whether a flag is set. `get_flag` does the same, but promises nothing of a text that is neither
 // `true` nor `false`.
 fn flag_of(matches: &ArgMatches, id: &str) -> bool
@@ -413,7 +427,7 @@ fn stream_job_of(matches: &ArgMatches) -> StreamJob
 {
     StreamJob {
         limit: limit_of(matches, "limit", DEFAULT_LIMIT, MAX_LIMIT),
-        file_limit: limit_of(matches, "file_limit", DEFAULT_FILE_LIMIT, MAX_FILE_LIMIT),
+        file_limit: file_limit_of(matches),
         descriptors: limit_of(matches, "descriptors", DEFAULT_DESCRIPTORS, MAX_DESCRIPTORS),
         path_limit: limit_of(matches, "path_limit", DEFAULT_PATH_LIMIT, MAX_PATH_LIMIT),
         check: flag_of(matches, "check"),
