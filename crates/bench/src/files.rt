@@ -113,10 +113,10 @@ fn do_work<K: Machine>(kernel: &mut K, heap: Heap, work: Work, i: u32, size: u32
             let offset = i64::from(offset_of(i, size));
             call(kernel, Call::Pread(FILE, PIECE, offset))
         }
-        Work::Cut => call(kernel, Call::Ftruncate(FILE, len_of(i, size))),
+        Work::Cut => call(kernel, Call::Ftruncate(FILE, u64::from(len_of(i, size)))),
         Work::Truncate => {
             let path = Bytes::copy(heap, PATH.as_bytes())?;
-            call(kernel, Call::Truncate(path, len_of(i, size)))
+            call(kernel, Call::Truncate(path, u64::from(len_of(i, size))))
         }
         Work::Data => seek(kernel, offset_of(i, size), Whence::Data),
         Work::Punch => {
@@ -136,7 +136,7 @@ fn do_often<K: Machine>(kernel: &mut K, heap: Heap, work: Work, size: u32) -> Re
 
 // The file has its size again.
 fn restore<K: Machine>(kernel: &mut K, size: u32) -> Result<()> {
-    call(kernel, Call::Ftruncate(FILE, size))?;
+    call(kernel, Call::Ftruncate(FILE, u64::from(size)))?;
     forget(kernel)
 }
 
@@ -192,7 +192,7 @@ fn print_row<K: Machine>(
 
 fn cut_to<K: Machine>(rt: &HostRuntime, kernel: &mut K, heap: Heap, len: u32) -> Result<Cost> {
     let lap = Lap::start(rt, heap)?;
-    call(kernel, Call::Ftruncate(FILE, len))?;
+    call(kernel, Call::Ftruncate(FILE, u64::from(len)))?;
     lap.cost(rt, heap)
 }
 
@@ -241,7 +241,7 @@ pub(crate) fn kernel_with_file<K: Machine>(heap: Heap) -> Result<K> {
         bail!("there is no priority 0")
     };
     let limits = Limits {
-        file_bytes: LARGEST_FILE as u32,
+        file_bytes: LARGEST_FILE as u64,
         ..Limits::of_entries(65_536)
     };
     let mut kernel = K::with_limits(heap, &[zero], limits)?;

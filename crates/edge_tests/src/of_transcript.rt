@@ -150,7 +150,7 @@ static TRANSCRIPT: &str = "1 P1 begin -> begun
 ";
 
 // A status with these rights.
-fn told(kind: Kind, size: u32, links: u32, rights: Rights) -> Reply {
+fn told(kind: Kind, size: u64, links: u32, rights: Rights) -> Reply {
     Reply::Answer(Answer::Stat(Stat {
         kind,
         num: Num(7),
@@ -161,7 +161,7 @@ fn told(kind: Kind, size: u32, links: u32, rights: Rights) -> Reply {
 }
 
 // A status with the first rights of its kind.
-fn stat(kind: Kind, size: u32, links: u32) -> Reply {
+fn stat(kind: Kind, size: u64, links: u32) -> Reply {
     told(kind, size, links, Rights::first(Some(kind)))
 }
 

@@ -115,7 +115,7 @@ pub(crate) fn empty(rt: &impl Abort, heap: Heap) -> History {
 }
 
 // The same, and files of at most so many bytes.
-pub(crate) fn limited(rt: &impl Abort, heap: Heap, file_bytes: u32) -> History
+pub(crate) fn limited(rt: &impl Abort, heap: Heap, file_bytes: u64) -> History
     requires { file_bytes ≤ LARGEST_FILE }
 {
     let zero = Priority::new(0).unwrap();

@@ -85,7 +85,7 @@ fn what_was_written_has_to_be_read(rt: HostRuntime) {
 }
 
 // Of two bytes both are written to a file that may have so many.
-fn written(rt: &impl Abort, heap: Heap, file_bytes: u32) -> History
+fn written(rt: &impl Abort, heap: Heap, file_bytes: u64) -> History
     requires { file_bytes ≤ LARGEST_FILE }
 {
     let mut history = limited(rt, heap, file_bytes);

@@ -17,7 +17,7 @@ const PROCESSES: u32 = 4;
 struct Use {
     pid: u32,
     file: u32,
-    block: u32,
+    block: u64,
     write: bool,
 }
 
@@ -77,11 +77,11 @@ fn touches_of(rt: &impl Abort, heap: Heap, asked: &Asked) -> Touches {
     let file = Num(asked.file as usize);
     if asked.count == 1 && asked.write {
         touches
-            .write(Aspect::Block(file, asked.first))
+            .write(Aspect::Block(file, u64::from(asked.first)))
             .expect(rt, "memory");
     } else if asked.first.saturating_add(asked.count) < 1000 {
         touches
-            .push_blocks(file, asked.first, asked.count, asked.write)
+            .push_blocks(file, u64::from(asked.first), u64::from(asked.count), asked.write)
             .expect(rt, "memory");
     }
     touches
@@ -92,7 +92,7 @@ fn add_uses(rt: &impl Abort, uses: &mut Uses, asked: &Asked) {
         let one = Use {
             pid: asked.pid,
             file: asked.file,
-            block: asked.first.wrapping_add(more),
+            block: u64::from(asked.first.wrapping_add(more)),
             write: asked.write,
         };
         if !uses.as_slice().contains(&one) {
@@ -141,7 +141,7 @@ fn assert_journal(rt: &impl Abort, records: &Records, uses: &[Use], pid: u32) {
 }
 
 /// The users of a block are these.
-fn assert_users(rt: &impl Abort, records: &Records, uses: &[Use], file: u32, block: u32) {
+fn assert_users(rt: &impl Abort, records: &Records, uses: &[Use], file: u32, block: u64) {
     let touch = Touch {
         aspect: Aspect::Block(Num(file as usize), block),
         write: true,
@@ -176,7 +176,7 @@ fn assert_all(rt: &impl Abort, records: &Records, uses: &[Use])
     }
     for file in 0..FILES {
         for block in 0..BLOCKS {
-            assert_users(rt, records, uses, file, block);
+            assert_users(rt, records, uses, file, u64::from(block));
         }
     }
 }
@@ -188,7 +188,7 @@ fn clash_with(uses: &[Use], asked: &Asked, pid: u32) -> Option<Use> {
             let one = Use {
                 pid,
                 file: asked.file,
-                block: asked.first.wrapping_add(more),
+                block: u64::from(asked.first.wrapping_add(more)),
                 write,
             };
             if (asked.write || write) && uses.contains(&one) {
@@ -199,7 +199,7 @@ fn clash_with(uses: &[Use], asked: &Asked, pid: u32) -> Option<Use> {
     None
 }
 
-fn is_block(touch: &Touch, file: u32, block: u32) -> bool {
+fn is_block(touch: &Touch, file: u32, block: u64) -> bool {
     match &touch.aspect {
         Aspect::Block(there, at) => there.0 == file as usize && *at == block,
         _ => false,

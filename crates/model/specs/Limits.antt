@@ -30,7 +30,7 @@ target_limit = 4095
 -- the most bytes that a file can have at all, and so the largest offset (FILESIZEBITS, SSIZE_MAX);
 -- each kernel has a number of its own, at most this
 abbrev pub largest_file : ℕ
-largest_file = 2147483647
+largest_file = 9223372036854775807
 
 -- the number of a kernel for which none is given
 abbrev pub default_largest_file : ℕ

@@ -81,7 +81,7 @@ pub(crate) struct Outcome {
 }
 
 // What an object is like, but for its number, which may be another one behind a refusal.
-pub(crate) type Seen = (Kind, u32, u32, Rights);
+pub(crate) type Seen = (Kind, u64, u32, Rights);
 
 pub(crate) fn seen(looked: Result<Stat, Fault>) -> Result<Seen, Fault> {
     match looked {

@@ -3,7 +3,7 @@
 use crate::capacity::count_of;
 use crate::row::{do_script, kernel_with, pass};
 use heap::Heap;
-use ids::{Bytes, Call, Fd, LARGEST_FILE, Limits, Op, Pid};
+use ids::{Bytes, Call, Fd, Limits, Op, Pid};
 use kernel::Kernel;
 use machine::Machine;
 use std::test::Fail;
@@ -80,7 +80,7 @@ fn is_moved<K: Machine>(heap: Heap, kernel: &mut K) -> Result<bool, Fail> {
 
 fn is_moved_anew<K: Machine>(heap: Heap) -> Result<bool, Fail> {
     let limits = Limits {
-        file_bytes: LARGEST_FILE as u32,
+        file_bytes: 2_147_483_647,
         ..Limits::of_entries(100)
     };
     let mut kernel: K = kernel_with(heap, OPENED, limits)?;

@@ -19,7 +19,7 @@ pub(crate) struct Row {
 
 // A row, and the most bytes of a file of its kernel.
 pub(crate) struct Large {
-    pub(crate) file_bytes: u32,
+    pub(crate) file_bytes: u64,
     pub(crate) row: Row,
 }
 
@@ -40,7 +40,7 @@ pub(crate) fn kernel_with<K: Machine>(heap: Heap, text: &str, limits: Limits) ->
     let script = script_of(heap, text)?;
     let limits = Limits {
         entries: limits.entries.min(1000),
-        file_bytes: limits.file_bytes.min(LARGEST_FILE as u32),
+        file_bytes: limits.file_bytes.min(LARGEST_FILE as u64),
         ..limits
     };
     Ok(K::with_limits(heap, script.priorities(), limits)?)

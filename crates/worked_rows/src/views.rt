@@ -86,13 +86,13 @@ static WRITES: &str = "priorities 0
 ";
 
 // The numbers of the blocks of `/a` into which process 1 has written.
-fn blocks_of(heap: Heap, kernel: &Kernel) -> Result<Vec<u32, Heap>, Fail> {
+fn blocks_of(heap: Heap, kernel: &Kernel) -> Result<Vec<u64, Heap>, Fail> {
     let file = in_root(heap, &kernel.view(Pid(1)), b"a")?;
     let shadow = kernel.shadow(Pid(1)).ok_or("no transaction")?;
     Ok(Vec::from_slice(heap, shadow.changed(file))?)
 }
 
-fn written_blocks(kernel: &mut Kernel, heap: Heap) -> Result<Vec<u32, Heap>, Fail> {
+fn written_blocks(kernel: &mut Kernel, heap: Heap) -> Result<Vec<u64, Heap>, Fail> {
     do_script(kernel, heap, WRITES, "1,1,1,1,1,1,1,1")?;
     blocks_of(heap, kernel)
 }
@@ -105,6 +105,6 @@ fn blocks_of_writes_are_told(rt: HostRuntime) -> Result<(), Fail> {
     let told = written_blocks(&mut kernel, heap);
     drop(kernel);
     let told = told?;
-    assert_eq!(rt; told.as_slice(), [1u32, 4].as_slice());
+    assert_eq!(rt; told.as_slice(), [1u64, 4].as_slice());
     Ok(())
 }

@@ -24,7 +24,7 @@ fn open_files(writer: &mut Actor, heap: Heap) -> Result<()> {
     for number in 0..FILES {
         let path = format!(in heap; "/table-{number}")?;
         writer.open(heap, path.as_str(), flags)?;
-        writer.other(Call::Ftruncate(Fd(number as u32), LARGEST as u32 / 2))?;
+        writer.other(Call::Ftruncate(Fd(number as u32), LARGEST as u64 / 2))?;
     }
     Ok(())
 }
