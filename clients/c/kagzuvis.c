@@ -422,7 +422,7 @@ int64_t kagzuvis_lseek(kagzuvis *kernel, unsigned process, int fd, int64_t offse
     if (whence != SEEK_SET && whence != SEEK_CUR && whence != SEEK_END && whence != KAGZUVIS_SEEK_DATA
         && whence != KAGZUVIS_SEEK_HOLE)
         spoil(kernel, KAGZUVIS_MISUSED);
-    return ask_number(kernel, process, LSEEK);
+    return ask(kernel, process, LSEEK) == 0 ? (int64_t)kernel->last.numbers[0] : -1;
 }
 
 int kagzuvis_fallocate(kagzuvis *kernel, unsigned process, int fd, int64_t offset, int64_t length, enum kagzuvis_space space)
@@ -437,7 +437,7 @@ int kagzuvis_fallocate(kagzuvis *kernel, unsigned process, int fd, int64_t offse
     return ask(kernel, process, FALLOCATE);
 }
 
-int kagzuvis_ftruncate(kagzuvis *kernel, unsigned process, int fd, uint32_t length)
+int kagzuvis_ftruncate(kagzuvis *kernel, unsigned process, int fd, uint64_t length)
 {
     begin_call(kernel, process, FTRUNCATE);
     put_fd(kernel, fd);
@@ -445,7 +445,7 @@ int kagzuvis_ftruncate(kagzuvis *kernel, unsigned process, int fd, uint32_t leng
     return ask(kernel, process, FTRUNCATE);
 }
 
-int kagzuvis_truncate(kagzuvis *kernel, unsigned process, const char *path, uint32_t length)
+int kagzuvis_truncate(kagzuvis *kernel, unsigned process, const char *path, uint64_t length)
 {
     begin_call(kernel, process, TRUNCATE);
     put_path(kernel, path);

@@ -113,7 +113,7 @@ enum kagzuvis_aspect {
 
 struct kagzuvis_stat {
     enum kagzuvis_kind kind;
-    uint32_t size;
+    uint64_t size;
     uint32_t links;
     unsigned mode;        /* the bits that a chmod sets, as 0644 */
     uint32_t user;
@@ -127,7 +127,7 @@ struct kagzuvis_stat {
 struct kagzuvis_cause {
     enum kagzuvis_aspect aspect;
     char name[256];       /* of an entry, else empty */
-    uint32_t block;       /* of a block, else 0 */
+    uint64_t block;       /* of a block, else 0 */
     int write;            /* whether it was written, and not only read */
     unsigned other;
 };
@@ -138,7 +138,7 @@ struct kagzuvis_answer {
     uint64_t place;                /* in the history, from 1; 0 where there is no entry */
     unsigned process;
     const char *operation;         /* its word, as "mkdir", or NULL */
-    uint32_t numbers[2];           /* the descriptor, count, offset or child; of a pipe both descriptors */
+    uint64_t numbers[2];           /* the descriptor, count, offset or child; of a pipe both descriptors */
     struct kagzuvis_stat stat;
     const char *bytes;             /* what was read, or a target, with a zero byte behind it */
     size_t length;
@@ -200,9 +200,9 @@ long kagzuvis_pwrite(kagzuvis *kernel, unsigned process, int fd, const void *byt
 long kagzuvis_fill(kagzuvis *kernel, unsigned process, int fd, size_t count, unsigned char byte);
 long kagzuvis_pfill(kagzuvis *kernel, unsigned process, int fd, size_t count, unsigned char byte, int64_t offset);
 int64_t kagzuvis_lseek(kagzuvis *kernel, unsigned process, int fd, int64_t offset, int whence);
-int kagzuvis_ftruncate(kagzuvis *kernel, unsigned process, int fd, uint32_t length);
+int kagzuvis_ftruncate(kagzuvis *kernel, unsigned process, int fd, uint64_t length);
 int kagzuvis_fallocate(kagzuvis *kernel, unsigned process, int fd, int64_t offset, int64_t length, enum kagzuvis_space space);
-int kagzuvis_truncate(kagzuvis *kernel, unsigned process, const char *path, uint32_t length);
+int kagzuvis_truncate(kagzuvis *kernel, unsigned process, const char *path, uint64_t length);
 int kagzuvis_stat(kagzuvis *kernel, unsigned process, const char *path, struct kagzuvis_stat *stat);
 int kagzuvis_fstat(kagzuvis *kernel, unsigned process, int fd, struct kagzuvis_stat *stat);
 int kagzuvis_link(kagzuvis *kernel, unsigned process, const char *old_path, const char *new_path);

@@ -8,7 +8,7 @@
 #include <string.h>
 
 /* What the answer to an operation says. */
-enum form { DONE, NUMBER, BYTES, STAT, NAMES, PAIR, CHILD, BEGUN, COMMITTED, GIVEN_UP };
+enum form { DONE, NUMBER, LENGTH, BYTES, STAT, NAMES, PAIR, CHILD, BEGUN, COMMITTED, GIVEN_UP };
 
 enum operation {
     OPEN, CLOSE, READ, PREAD, WRITE, PWRITE, LSEEK, FTRUNCATE, TRUNCATE, FALLOCATE, STAT_PATH, FSTAT, LINK, UNLINK, RENAME,
@@ -22,7 +22,7 @@ static const struct {
     enum form form;
 } operations[] = {
     {"open", 2, NUMBER}, {"close", 1, DONE}, {"read", 2, BYTES}, {"pread", 3, BYTES}, {"write", 2, NUMBER},
-    {"pwrite", 3, NUMBER}, {"lseek", 3, NUMBER}, {"ftruncate", 2, DONE}, {"truncate", 2, DONE}, {"fallocate", 4, DONE},
+    {"pwrite", 3, NUMBER}, {"lseek", 3, LENGTH}, {"ftruncate", 2, DONE}, {"truncate", 2, DONE}, {"fallocate", 4, DONE},
     {"stat", 1, STAT},
     {"fstat", 1, STAT}, {"link", 2, DONE}, {"unlink", 1, DONE}, {"rename", 2, DONE}, {"exchange", 2, DONE}, {"mkdir", 1, DONE}, {"rmdir", 1, DONE},
     {"list", 1, NAMES}, {"symlink", 2, DONE}, {"readlink", 1, BYTES}, {"lstat", 1, STAT}, {"mknod", 2, DONE}, {"chmod", 2, DONE},
@@ -163,15 +163,27 @@ static int decimal(struct word word, uint64_t most, uint64_t *number)
     return 0;
 }
 
-static int next_number(struct words *words, uint32_t *number)
+static int next_wide(struct words *words, uint64_t most, uint64_t *number)
 {
     struct word word;
+
+    return next(words, &word) != 0 || decimal(word, most, number) != 0 ? -1 : 0;
+}
+
+static int next_number(struct words *words, uint32_t *number)
+{
     uint64_t wide;
 
-    if (next(words, &word) != 0 || decimal(word, UINT32_MAX, &wide) != 0)
+    if (next_wide(words, UINT32_MAX, &wide) != 0)
         return -1;
     *number = (uint32_t)wide;
     return 0;
+}
+
+/* A length of a file, an offset or the number of a block. */
+static int next_length(struct words *words, uint64_t *length)
+{
+    return next_wide(words, INT64_MAX, length);
 }
 
 static int process_in(struct word word, unsigned *process)
@@ -274,7 +286,7 @@ static int read_stat(struct words *words, struct kagzuvis_stat *stat)
     struct word word;
     int kind = next(words, &word) == 0 ? place_in(word, kind_names, COUNT(kind_names)) : -1;
 
-    if (kind < 0 || next_is(words, "size") != 0 || next_number(words, &stat->size) != 0)
+    if (kind < 0 || next_is(words, "size") != 0 || next_length(words, &stat->size) != 0)
         return -1;
     stat->kind = (enum kagzuvis_kind)kind;
     if (next_is(words, "links") != 0 || next_number(words, &stat->links) != 0)
@@ -334,7 +346,7 @@ static int read_cause(struct words *words, struct kagzuvis_answer *answer)
             return -1;
         memcpy(cause->name, name, strlen(name) + 1);
     }
-    if (cause->aspect == KAGZUVIS_BLOCK && next_number(words, &cause->block) != 0)
+    if (cause->aspect == KAGZUVIS_BLOCK && next_length(words, &cause->block) != 0)
         return -1;
     cause->write = take_if(words, "write");
     if (!cause->write && next_is(words, "read") != 0)
@@ -402,7 +414,9 @@ static int read_reply(struct storage *storage, struct words *words, enum form fo
     case DONE:
         return next_is(words, "ok");
     case NUMBER:
-        return next_number(words, &answer->numbers[0]);
+        return next_wide(words, UINT32_MAX, &answer->numbers[0]);
+    case LENGTH:
+        return next_length(words, &answer->numbers[0]);
     case BYTES:
         return read_bytes(words, answer);
     case STAT:
@@ -410,9 +424,9 @@ static int read_reply(struct storage *storage, struct words *words, enum form fo
     case NAMES:
         return read_names(storage, words, answer);
     case PAIR:
-        return next_number(words, &answer->numbers[0]) == 0 ? next_number(words, &answer->numbers[1]) : -1;
+        return next_wide(words, UINT32_MAX, &answer->numbers[0]) == 0 ? next_wide(words, UINT32_MAX, &answer->numbers[1]) : -1;
     case CHILD:
-        return next_is(words, "child") == 0 ? next_number(words, &answer->numbers[0]) : -1;
+        return next_is(words, "child") == 0 ? next_wide(words, UINT32_MAX, &answer->numbers[0]) : -1;
     case BEGUN:
         return next_is(words, "begun");
     case COMMITTED:

@@ -56,17 +56,17 @@ static int read_name(const char *word, char *name, size_t room)
 
 static int read_touch(struct kagzuvis_mount_cause *cause, const char *text)
 {
-    char name[1024] = "", block[11] = "0", access[6], other[11];
+    char name[1024] = "", block[21] = "0", access[6], other[11];
     int end = -1;
 
     if (sscanf(text, "entry %1023s %5[a-z] by P%10[0-9]%n", name, access, other, &end) == 3)
         strcpy(cause->aspect, "entry");
-    else if (sscanf(text, "block %10[0-9] %5[a-z] by P%10[0-9]%n", block, access, other, &end) == 3)
+    else if (sscanf(text, "block %20[0-9] %5[a-z] by P%10[0-9]%n", block, access, other, &end) == 3)
         strcpy(cause->aspect, "block");
     else if (sscanf(text, "%15[a-z] %5[a-z] by P%10[0-9]%n", cause->aspect, access, other, &end) != 3)
         return -1;
     cause->write = strcmp(access, "write") == 0;
-    cause->block = (uint32_t)strtoull(block, NULL, 10);
+    cause->block = strtoull(block, NULL, 10);
     cause->other = (uint32_t)strtoull(other, NULL, 10);
     if (text[end] != '\0' || (!cause->write && strcmp(access, "read") != 0))
         return -1;

@@ -60,7 +60,7 @@ struct kagzuvis_mount_cause {
     char text[1280];      /* as "block 3 read by P2" */
     char aspect[16];      /* of what it lost, as "block", or empty */
     char name[256];       /* of an "entry", with a zero byte behind it, else empty */
-    uint32_t block;       /* of a "block", else 0 */
+    uint64_t block;       /* of a "block", else 0 */
     int write;            /* whether that was written, and not only read */
     uint32_t other;       /* the number of the process in the kernel that won, or 0 */
 };

@@ -189,6 +189,10 @@ def _offset(value):
     return _number(value, -(2**63), 2**63 - 1)
 
 
+def _length(value):
+    return _number(value, 0, 2**63 - 1)
+
+
 def _flags(flags):
     _number(flags, 0, 63)
     names = [name for bits, name in ((1, b"RDONLY"), (2, b"WRONLY"), (3, b"RDWR")) if flags & 3 == bits]
@@ -274,7 +278,7 @@ def _read_stat(words):
         mode, end = _octal(words[end + 1]), end + 2
     if words[end : end + 1] == [b"owner"]:
         user, group, end = _decimal(words[end + 1]), _decimal(words[end + 2]), end + 3
-    return Stat(kind.decode(), _decimal(length), _decimal(count), mode, user, group), end
+    return Stat(kind.decode(), _decimal(length, 2**63 - 1), _decimal(count), mode, user, group), end
 
 
 def _read_names(words):
@@ -301,7 +305,7 @@ def _read_cause(words):
     if aspect not in ASPECTS:
         raise ValueError("no aspect")
     name = unspell(words[1]) if aspect == b"entry" else None
-    block = _decimal(words[1]) if aspect == b"block" else None
+    block = _decimal(words[1], 2**63 - 1) if aspect == b"block" else None
     at = 2 if aspect in (b"entry", b"block") else 1
     if words[at] not in (b"read", b"write"):
         raise ValueError("no access")
@@ -339,7 +343,8 @@ def _read_dooms(words):
 _READERS = (
     (_reader_of(b"ok"), b"close 1 ftruncate 2 truncate 2 link 2 unlink 1 rename 2 exchange 2 mkdir 1 rmdir 1 symlink 2 mknod 2 exit 0"),
     (_reader_of(b"ok"), b"chmod 2 fchmod 2 chown 3 fchown 3 fallocate 4"),
-    (lambda words: (_decimal(words[0]), 1), b"open 2 write 2 pwrite 3 lseek 3 dup 1 dup2 2"),
+    (lambda words: (_decimal(words[0]), 1), b"open 2 write 2 pwrite 3 dup 1 dup2 2"),
+    (lambda words: (_decimal(words[0], 2**63 - 1), 1), b"lseek 3"),
     (_read_bytes, b"read 2 pread 3 readlink 1"),
     (_read_stat, b"stat 1 fstat 1 lstat 1"),
     (_read_names, b"list 1"),
@@ -634,8 +639,8 @@ class _Calls:
     def fill(self, fd, count, byte): return self._ask(b"fill", _number(fd), _count(count), _byte(byte))
     def pfill(self, fd, count, byte, offset): return self._ask(b"pfill", _number(fd), _count(count), _byte(byte), _offset(offset))
     def lseek(self, fd, offset, whence=os.SEEK_SET): return self._ask(b"lseek", _number(fd), _offset(offset), _WHENCES[whence])
-    def ftruncate(self, fd, length): return self._ask(b"ftruncate", _number(fd), _number(length))
-    def truncate(self, path, length): return self._ask(b"truncate", _path(path), _number(length))
+    def ftruncate(self, fd, length): return self._ask(b"ftruncate", _number(fd), _length(length))
+    def truncate(self, path, length): return self._ask(b"truncate", _path(path), _length(length))
     # The space is one of SPACES.
     def fallocate(self, fd, offset, length, space): return self._ask(b"fallocate", _number(fd), _offset(offset), _offset(length), _space(space))
     def stat(self, path): return self._ask(b"stat", _path(path))

@@ -56,7 +56,7 @@ pub enum Aspect {
     Entry(Vec<u8>),
     Names,
     Size,
-    Block(u32),
+    Block(u64),
     Links,
     Ends,
     Offset,
@@ -127,7 +127,7 @@ pub enum Special {
 #[derive(Clone, Copy, Debug, PartialEq, Eq)]
 pub struct Stat {
     pub kind: Kind,
-    pub size: u32,
+    pub size: u64,
     pub links: u32,
     /// The twelve bits that chmod sets.
     pub mode: u16,
@@ -140,8 +140,10 @@ pub struct Stat {
 pub enum Value {
     /// It is done; of a begin and an end too.
     Done,
-    /// A descriptor, a count, an offset or a child.
+    /// A descriptor, a count or a child.
     Number(u32),
+    /// An offset.
+    Offset(u64),
     Bytes(Vec<u8>),
     Pair(u32, u32),
     Stat(Stat),
@@ -281,6 +283,11 @@ impl<'a> Words<'a> {
         u32::try_from(decimal(self.next()?)?).ok()
     }
 
+    // A length of a file, an offset or the number of a block.
+    fn length(&mut self) -> Option<u64> {
+        decimal(self.next()?).filter(|length| i64::try_from(*length).is_ok())
+    }
+
     // One to four octal digits.
     fn mode(&mut self) -> Option<u16> {
         let word = self.next().filter(|word| word.len() <= 4)?;
@@ -332,7 +339,7 @@ fn read_stat(words: &mut Words<'_>) -> Option<Stat> {
         _ => return None,
     };
     words.expect("size")?;
-    let size = words.number()?;
+    let size = words.length()?;
     words.expect("links")?;
     let links = words.number()?;
     // What a new object of the kind has is not told.
@@ -353,7 +360,8 @@ fn read_names(words: &mut Words<'_>) -> Option<Vec<Vec<u8>>> {
 
 fn read_value(words: &mut Words<'_>, operation: &[u8]) -> Option<Value> {
     match operation {
-        b"open" | b"write" | b"pwrite" | b"lseek" | b"dup" | b"dup2" => words.number().map(Value::Number),
+        b"open" | b"write" | b"pwrite" | b"dup" | b"dup2" => words.number().map(Value::Number),
+        b"lseek" => words.length().map(Value::Offset),
         b"read" | b"pread" | b"readlink" => read_bytes(words).map(Value::Bytes),
         b"stat" | b"fstat" | b"lstat" => read_stat(words).map(Value::Stat),
         b"list" => read_names(words).map(Value::Names),
@@ -375,7 +383,7 @@ fn read_cause(words: &mut Words<'_>) -> Option<Cause> {
         b"entry" => Aspect::Entry(unspell(words.next()?)?),
         b"names" => Aspect::Names,
         b"size" => Aspect::Size,
-        b"block" => Aspect::Block(words.number()?),
+        b"block" => Aspect::Block(words.length()?),
         b"links" => Aspect::Links,
         b"ends" => Aspect::Ends,
         b"offset" => Aspect::Offset,
@@ -792,11 +800,12 @@ impl<'k> Process<'k> {
     pub fn pfill(&self, fd: u32, count: usize, byte: u8, offset: i64) -> Result<u32> {
         self.number_of(format!("pfill {fd} {} {byte:02x} {offset}", count.min(LINE_LIMIT)))
     }
-    pub fn lseek(&self, fd: u32, offset: i64, whence: Whence) -> Result<u32> {
-        self.number_of(format!("lseek {fd} {offset} {}", ["SET", "CUR", "END", "DATA", "HOLE"][whence as usize]))
+    pub fn lseek(&self, fd: u32, offset: i64, whence: Whence) -> Result<u64> {
+        let line = format!("lseek {fd} {offset} {}", ["SET", "CUR", "END", "DATA", "HOLE"][whence as usize]);
+        given!(self.ask(&line), Value::Offset(offset) => offset)
     }
-    pub fn ftruncate(&self, fd: u32, length: u32) -> Result<()> { self.done(format!("ftruncate {fd} {length}")) }
-    pub fn truncate(&self, path: impl AsRef<[u8]>, length: u32) -> Result<()> {
+    pub fn ftruncate(&self, fd: u32, length: u64) -> Result<()> { self.done(format!("ftruncate {fd} {length}")) }
+    pub fn truncate(&self, path: impl AsRef<[u8]>, length: u64) -> Result<()> {
         self.done(format!("truncate {} {length}", spell(path)))
     }
     pub fn fallocate(&self, fd: u32, offset: i64, length: i64, space: Space) -> Result<()> {

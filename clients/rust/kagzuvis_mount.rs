@@ -44,7 +44,7 @@ pub enum Aspect {
     /// The entry of a directory, by its name.
     Entry(Vec<u8>),
     /// The block of a file, by its number.
-    Block(u32),
+    Block(u64),
     /// As "names" or "size".
     Named(String),
 }
@@ -154,7 +154,7 @@ fn unspell(word: &str) -> Option<Vec<u8>> {
     Some(out)
 }
 
-fn number(word: &str) -> Option<u32> {
+fn number<N: std::str::FromStr>(word: &str) -> Option<N> {
     word.parse().ok().filter(|_| word.bytes().all(|byte| byte.is_ascii_digit()))
 }
 
