@@ -20,7 +20,7 @@ fn refused<T>(name: kagzuvis::Refusal) -> kagzuvis::Result<T> {
 }
 
 // What is told of an object with one name that belongs to nobody else.
-fn stat(kind: Kind, size: u32, mode: u16) -> Stat {
+fn stat(kind: Kind, size: u64, mode: u16) -> Stat {
     Stat { kind, size, links: 1, mode, user: 0, group: 0 }
 }
 
@@ -160,7 +160,7 @@ impl Tests {
         assert_eq!(process.lseek(1, 0, Whence::Set), refused(ESPIPE));
         assert_eq!(process.fallocate(2, 0, 0, Space::Punch), refused(EINVAL));
         assert_eq!(process.exchange("/d", "/none"), refused(ENOENT));
-        assert_eq!(process.truncate("/d/a", u32::MAX), refused(EFBIG));
+        assert_eq!(process.truncate("/d/a", u64::from(u32::MAX)), refused(EFBIG));
         assert_eq!(process.end(), refused(NotInTransaction));
         assert_eq!(process.ask("end\n1 end").value, Err(Misused));
         process.close(1)?;
