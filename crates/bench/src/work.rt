@@ -167,7 +167,10 @@ fn do_work<K: Machine>(kernel: &mut K, heap: Heap, work: Work, number: u64) -> R
         Work::Read => read(kernel, heap, number),
         Work::Pwrite => pwrite(kernel, heap, number),
         Work::Pread => call(kernel, Call::Pread(FILE, 64, offset_of(number))),
-        Work::Truncate => call(kernel, Call::Truncate(path(heap, b'f', number)?, u64::from(SHORTER))),
+        Work::Truncate => call(
+            kernel,
+            Call::Truncate(path(heap, b'f', number)?, u64::from(SHORTER)),
+        ),
         Work::Chmod => chmod(kernel, heap, number),
         Work::Chown => chown(kernel, heap, number),
         Work::Exchange => exchange(kernel, heap, number),

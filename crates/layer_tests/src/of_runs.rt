@@ -9,7 +9,9 @@ use std::process::Abort;
 use touches::{Touched, Touches};
 
 const BLOCKS: u32 = 24;
+
 const FILES: u32 = 2;
+
 const PROCESSES: u32 = 4;
 
 /// A process's touch of one block.
@@ -51,7 +53,10 @@ impl Random {
         requires { 0 < limit }
         ensures { result < limit }
     {
-        self.state = self.state.wrapping_mul(1_664_525).wrapping_add(1_013_904_223);
+        self.state = self
+            .state
+            .wrapping_mul(1_664_525)
+            .wrapping_add(1_013_904_223);
         (self.state >> 8) % limit
     }
 
@@ -81,7 +86,12 @@ fn touches_of(rt: &impl Abort, heap: Heap, asked: &Asked) -> Touches {
             .expect(rt, "memory");
     } else if asked.first.saturating_add(asked.count) < 1000 {
         touches
-            .push_blocks(file, u64::from(asked.first), u64::from(asked.count), asked.write)
+            .push_blocks(
+                file,
+                u64::from(asked.first),
+                u64::from(asked.count),
+                asked.write,
+            )
             .expect(rt, "memory");
     }
     touches
@@ -222,7 +232,9 @@ fn is_before(first: &Clash, second: &Clash) -> bool {
 /// The first clashes of these blocks are those that are found one by one.
 fn assert_clashes(rt: &impl Abort, heap: Heap, records: &Records, uses: &[Use], asked: &Asked) {
     let touches = touches_of(rt, heap, asked);
-    let found = first_clashes(heap, records, Pid(asked.pid), touches.as_slice()).expect(rt, "memory");
+    let found = first_clashes(heap, records, Pid(asked.pid), touches.as_slice()).expect(
+        rt, "memory",
+    );
     drop(touches);
     let all = found.as_slice();
     let mut wanted = 0usize;
@@ -235,10 +247,12 @@ fn assert_clashes(rt: &impl Abort, heap: Heap, records: &Records, uses: &[Use], 
         }
     }
     assert_eq!(rt; all.len(), wanted);
-    assert!(rt; all.windows(2).all(|two| match two {
-        [first, second] => is_before(first, second),
-        _ => true,
-    }));
+    assert!(rt;
+        all.windows(2).all(|two| match two {
+            [first, second] => is_before(first, second),
+            _ => true,
+        })
+    );
     drop(found);
 }
 
@@ -254,13 +268,7 @@ fn records_of(rt: &impl Abort, heap: Heap) -> Records
 }
 
 /// One change of both, and what clashes before it.
-fn change(
-    rt: &impl Abort,
-    heap: Heap,
-    random: &mut Random,
-    records: &mut Records,
-    uses: &mut Uses,
-)
+fn change(rt: &impl Abort, heap: Heap, random: &mut Random, records: &mut Records, uses: &mut Uses)
     requires { length records.old ≡ 4 }
     ensures { length records.new ≡ 4 }
 {

@@ -133,7 +133,9 @@ fn file_limit_arg<'a>(alloc: Global) -> Arg<'a>
     Arg::new(alloc, "file_limit")
         .long("file-limit")
         .value_name("N")
-        .help("The most bytes of a file, at most 9223372036854775807, and that where it is not given")
+        .help(
+            "The most bytes of a file, at most 9223372036854775807, and that where it is not given",
+        )
         .action(ArgAction::Set)
         .value_parser(ValueParser::unsigned(0, MAX_FILE_LIMIT))
 }

@@ -25,7 +25,7 @@ no_number : found_in (codes "--schedule=1" ∷ codes "--limit=x" ∷ codes "run.
 unfolding clap_on_literals
 no_number = refl
 
-most_file_limit : found_in (codes "--schedule=1" ∷ codes "--file-limit" ∷ codes "2147483647" ∷ codes "run.tx" ∷ []) ≡ []
+most_file_limit : found_in (codes "--schedule=1" ∷ codes "--file-limit" ∷ codes "9223372036854775807" ∷ codes "run.tx" ∷ []) ≡ []
 unfolding clap_on_literals
 most_file_limit = refl
 
@@ -33,7 +33,7 @@ least_file_limit : found_in (codes "--file-limit=1" ∷ codes "--threads" ∷ co
 unfolding clap_on_literals
 least_file_limit = refl
 
-large_file_limit : found_in (codes "--schedule=1" ∷ codes "--file-limit" ∷ codes "2147483648" ∷ codes "run.tx" ∷ []) ≡ ValueValidation ∷ []
+large_file_limit : found_in (codes "--schedule=1" ∷ codes "--file-limit" ∷ codes "9223372036854775808" ∷ codes "run.tx" ∷ []) ≡ ValueValidation ∷ []
 unfolding clap_on_literals
 large_file_limit = refl
 

@@ -1,7 +1,7 @@
 -- What is said of options' values that are looked up in one way is said of those looked up in another.
 use Rattle.std.proofs.Common.{◌≡◌, List, [], Option, Result, Ok, Err, sym, ◌∙◌, subst, inl, inr, codes, IfErr, IfOk}
 use Rattle.clap.specs.Words.{Text, fault_of}
-use Rattle.words.specs.Txsh.{HasFileToo, HasLimits, HasNoFile, HasNotOneWay, IsFaultOf, IsFlag, IsLimit, IsStream, IsTask, IsTaskFault, IsWay, SameMatches, limits_in, number_in, txsh, value_in}
+use Rattle.words.specs.Txsh.{HasFileToo, HasLimits, HasNoFile, HasNotOneWay, IsFaultOf, IsFlag, IsLimit, IsMost, IsStream, IsTask, IsTaskFault, IsWay, SameMatches, limits_in, number_in, txsh, value_in}
 use Rattle.words.specs.declared.CommandLineFault.{CommandLineFault}
 use Rattle.words.specs.declared.CommandLineFault.TheVariants.{OneWay, FileMissing, FileGiven, NotUtf8, Help, Usage, NoMemory}
 use Rattle.words.specs.declared.StreamJob.{StreamJob}
@@ -34,7 +34,7 @@ module _ (f g n m : Text → Option Text) (values : SameMatches f g) (numbers : 
   same_limits : (given : StreamJob) → HasLimits n given → HasLimits m given
   same_limits given h = record {
     limit = subst (λ (t : Option Text). IsLimit DEFAULT_LIMIT MAX_LIMIT t given.limit) (numbers (codes "limit")) h.limit;
-    file_limit = subst (λ (t : Option Text). IsLimit DEFAULT_FILE_LIMIT MAX_FILE_LIMIT t given.file_limit) (numbers (codes "file_limit")) h.file_limit;
+    file_limit = subst (λ (t : Option Text). IsMost 64 DEFAULT_FILE_LIMIT MAX_FILE_LIMIT t given.file_limit) (numbers (codes "file_limit")) h.file_limit;
     descriptors = subst (λ (t : Option Text). IsLimit DEFAULT_DESCRIPTORS MAX_DESCRIPTORS t given.descriptors) (numbers (codes "descriptors")) h.descriptors;
     path_limit = subst (λ (t : Option Text). IsLimit DEFAULT_PATH_LIMIT MAX_PATH_LIMIT t given.path_limit) (numbers (codes "path_limit")) h.path_limit;
     check = subst (λ (t : Option Text). IsFlag t given.check) (numbers (codes "check")) h.check;

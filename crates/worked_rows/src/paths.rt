@@ -34,7 +34,10 @@ fn error_of<K: Machine>(kernel: &mut K, call: Call) -> Option<Errno> {
 fn errors_of<K: Machine>(kernel: &mut K, path: &Bytes) -> Result<[Option<Errno>; 4], AllocError> {
     let stat = error_of(kernel, Call::Stat(path.try_clone()?));
     let lstat = error_of(kernel, Call::Lstat(path.try_clone()?));
-    let truncate = error_of(kernel, Call::Truncate(path.try_clone()?, u64::from(u32::MAX)));
+    let truncate = error_of(
+        kernel,
+        Call::Truncate(path.try_clone()?, u64::from(u32::MAX)),
+    );
     let readlink = error_of(kernel, Call::Readlink(path.try_clone()?));
     Ok([stat, lstat, truncate, readlink])
 }

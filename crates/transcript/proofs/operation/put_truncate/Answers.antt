@@ -3,4 +3,4 @@ use Rattle.transcript.proofs.Printing.{Prints-as, Prints-on}
 use Rattle.transcript.proofs.operation.put_truncate.Goals as goal
 
 pub returns : goal.returns
-returns g c = Prints-as (Prints-on _ (codes " ") _ c.put_path.ensures c.put_number.ensures) (search rules)
+returns g c = Prints-as (Prints-on _ (codes " ") _ c.put_path.ensures c.put_long.ensures) (search rules)

@@ -6,7 +6,7 @@ pub returns-in-Entry : goal.returns-in-Entry
 returns-in-Entry g c = Prints-as c.put_entry.ensures (search rules)
 
 pub returns-in-Block : goal.returns-in-Block
-returns-in-Block g c = Prints-as c.put_number.ensures (search rules)
+returns-in-Block g c = Prints-as c.put_long.ensures (search rules)
 
 pub returns-in-Names : goal.returns-in-Names
 returns-in-Names g c = Prints-as c.put_word.ensures (search rules)
