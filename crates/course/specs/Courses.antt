@@ -1,7 +1,7 @@
 -- The course of each kind of request, below the tables of a mount: paths and descriptors are known.
 -- Linux follows symbolic links itself, so what a path gives is told by `lstat`, which leaves a link in
 -- the last place alone; and a path that leads through a link leads no more where it led.
-use Rattle.std.specs.Prelude.{ℕ, ◌^◌, ◌==◌, ◌||◌, nat_lt, not, List, [], Bool, true, false, ℤ, pos}
+use Rattle.std.specs.Prelude.{◌≡◌, ℕ, ◌^◌, ◌==◌, ◌||◌, nat_lt, not, List, [], Bool, true, false, ℤ, pos}
 use Rattle.std.specs.Prelude.{Option, Some, None, Result, Ok, Err}
 use Rattle.std.specs.Prelude.{if◌then◌else◌}
 use Rattle.ids.specs.declared.call.Call.TheVariants as call
@@ -183,6 +183,10 @@ moving pid from to true = stating pid (call.Lstat to) >>= if_absent pid from to
 abbrev pub writing : ℕ → ℕ → List ℕ → ℤ → Course (Result ℕ Fault)
 writing pid fd bytes offset =
     calling pid (call.Pwrite fd bytes offset) >>= (λ r. Give (count_in r))
+
+-- a length as an offset
+abbrev pub IsOffset : ℤ → ℕ → Type 0
+IsOffset offset length = offset ≡ pos length
 
 -- behind so many bytes; no offset is as large as 2^63
 abbrev pub writing_behind : ℕ → ℕ → List ℕ → ℕ → Course (Result ℕ Fault)

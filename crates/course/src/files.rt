@@ -1,10 +1,10 @@
 // Requests on files.
-ghost use Rattle.std.specs.Prelude.{◌≡◌};
+ghost use Rattle.std.specs.Prelude.{◌≡◌, ◌<◌, ◌^◌};
 ghost use Rattle.ids.specs.declared.call.Call.TheVariants as asked;
 ghost use Rattle.course.specs.Hands.{bound};
 ghost use Rattle.course.specs.Course.{Ran};
 ghost use Rattle.course.specs.Courses.{appending, both, checking, closing, copying, creating, doing};
-ghost use Rattle.course.specs.Courses.{fresh, if_there, opening, opening_file, opening_this};
+ghost use Rattle.course.specs.Courses.{IsOffset, fresh, if_there, opening, opening_file, opening_this};
 ghost use Rattle.course.specs.Courses.{placing, reading, seeing, seeing_new};
 ghost use Rattle.course.specs.Courses.{closing_for, stating, writing, writing_behind};
 ghost use Rattle.course.specs.Faults.{is_special, is_there, unless_aborted, unless_special};
@@ -305,6 +305,14 @@ pub fn write<K: Machine>(
     count_in(reply)
 }
 
+// A length as an offset.
+fn offset_of(size: u64) -> i64
+    requires { size < 2 ^ 63 }
+    ensures { IsOffset result size }
+{
+    size as i64
+}
+
 // Puts bytes behind so many of a file. Where no offset is so large, none is put.
 fn write_behind<K: Machine>(
     hand: &mut Hand<K>,
@@ -316,13 +324,11 @@ fn write_behind<K: Machine>(
     ensures ran { Ran hand.old.shown
         (writing_behind hand.old.pid fd bytes size) result hand.new.shown }
 {
-    match i64::try_from(size) {
-        Ok(offset) => write(hand, fd, bytes, offset),
-        Err(_) => {
-            drop(bytes);
-            Err(Fault::Refused(Errno::EFBIG))
-        }
+    if size < 1 << 63 {
+        return write(hand, fd, bytes, offset_of(size));
     }
+    drop(bytes);
+    Err(Fault::Refused(Errno::EFBIG))
 }
 
 /// Puts bytes at the end of the file of a descriptor. It gives how many.

@@ -1,9 +1,8 @@
-use Rattle.std.proofs.Common.{ℕ, ap, rules, FitsSigned, w64}
-use Rattle.std.proofs.lemmas.Int.{to_z-of_z}
-use Rattle.std.specs.Prelude.{pos}
+use Rattle.std.proofs.Common.{ℕ, ap}
 use Rattle.ids.specs.declared.call.Call.TheVariants as call
+use Rattle.ids.specs.declared.reply.Stat.{Stat}
 use Rattle.machine.specs.Shown.{Shown}
-use Rattle.course.specs.Courses.{stating, writing}
+use Rattle.course.specs.Courses.{stating, writing_behind}
 use Rattle.course.proofs.Runs.{by_pid, goes_on, stops}
 use Rattle.course.proofs.files.append.Goals as goal
 
@@ -12,7 +11,5 @@ returns-in_err-stat-clause-ran g c = stops (stating c.args.hand.now.pid (call.Fs
 
 pub returns-clause-ran : goal.returns-clause-ran
 returns-clause-ran g c =
-    let fits : FitsSigned w64 c.offset_of.result = search rules in
-    let w = rw (to_z-of_z _ _ fits) at c.write.ensures.ran in
-    let h = rw c.offset_of.ensures at w in
-    goes_on (stating c.args.hand.now.pid (call.Fstat c.args.fd)) (λ stat. writing c.args.hand.now.pid c.args.fd c.args.bytes (pos stat.size)) c.in_ok-stat.ensures.ran (by_pid (λ p. writing p c.args.fd c.args.bytes (pos c.in_ok-stat.stat.size)) (ap (λ (b : ℕ × Shown). b.0) c.in_ok-stat.ensures.bound) h)
+    goes_on (stating c.args.hand.now.pid (call.Fstat c.args.fd)) (λ (stat : Stat). writing_behind c.args.hand.now.pid c.args.fd c.args.bytes stat.size) c.in_ok-stat.ensures.ran
+    (by_pid (λ p. writing_behind p c.args.fd c.args.bytes c.in_ok-stat.stat.size) (ap (λ (b : ℕ × Shown). b.0) c.in_ok-stat.ensures.bound) c.write_behind.ensures.ran)
