@@ -1,9 +1,9 @@
 -- The entries of a journal and the touches that they stand for, as the last one changes, comes or goes.
 use Rattle.std.proofs.Common.{◌≡◌, ◌∙◌, sym, refl, ap, subst, ℕ, zero, suc, ◌+◌, ◌-◌, ◌*◌, ◌^◌, ◌<◌, ◌≤◌, Bool, true, false, Option, Some, None, List, [], ◌∷◌, ◌++◌, length, get_or, set, take, append_assoc, arith}
-use Rattle.std.specs.Prelude.{IfSome, IfNone}
+use Rattle.std.specs.Prelude.{IfSome, IfNone, MatchOption}
 use Rattle.std.specs.Option.{option_to_list}
 use Rattle.std.specs.List.{AllByRecursion}
-use Rattle.std.proofs.lemmas.List.{append-nil, length-append}
+use Rattle.std.proofs.lemmas.List.{append-nil, length-append, same_from_push}
 use Rattle.model.specs.Aspects.{Block}
 use Rattle.model.specs.Steps.{Touch}
 use Rattle.touches.specs.declared.touched.Touched.{Touched}
@@ -53,9 +53,17 @@ pub expanded_popped : (xs ys : List Touched) (o : Option Touched) → xs ≡ ys 
 expanded_popped xs ys (Some t) e = ap expanded e ∙ expanded_push ys t
 expanded_popped xs ys None e = tt
 
-pub none_popped : (xs ys : List Touched) (o : Option Touched) → xs ≡ ys ++ option_to_list o → ys ≡ [] → IfNone o (xs ≡ [])
-none_popped xs ys (Some t) e none = tt
-none_popped xs ys None e none = e ∙ append-nil ys ∙ none
+pub none_popped : (xs : List Touched) (n m : ℕ) (o : Option Touched) → 0 < n → MatchOption o ((n ≡ 0) × (m ≡ 0)) (λ _. m + 1 ≡ n) → IfNone o (xs ≡ [])
+none_popped xs n m (Some t) some cases = tt
+none_popped xs n m None some cases = let none : n ≡ 0 = cases.0 in absurd (omega arith)
+
+pub none_same : (xs ys : List Touched) (o : Option Touched) → xs ≡ ys ++ option_to_list o → IfNone o (ys ≡ xs)
+none_same xs ys (Some t) e = tt
+none_same xs ys None e = sym (e ∙ append-nil ys)
+
+pub last_few : (xs ys : List Touched) (i most : ℕ) (x : Touched) (o : Option Touched) → length xs ≡ suc i → x ≡ get_or xs i x → xs ≡ ys ++ option_to_list o → length (touches_of x) ≤ most → IfSome o (λ t. length (touches_of t) ≤ most)
+last_few xs ys i most x (Some t) long is e few = subst (λ u. length (touches_of u) ≤ most) (same_from_push (take i xs) ys x t (sym (at_last xs i x long is) ∙ e)).1 few
+last_few xs ys i most x None long is e few = tt
 
 -- each entry has touches
 has_last : (xs : List Touched) (i : ℕ) (x : Touched) → length xs ≡ suc i → x ≡ get_or xs i x → HaveTouches xs → 0 < length (touches_of x)
@@ -140,6 +148,9 @@ counted xs ys t n k e is more = let l : length (expanded ys) ≡ length (expande
 -- and behind a pop
 pub uncounted : (xs ys : List Touched) (t : Touched) (n k : ℕ) → expanded xs ≡ expanded ys ++ touches_of t → n ≡ length (expanded xs) → k ≡ length (touches_of t) → n - k ≡ length (expanded ys)
 uncounted xs ys t n k e is less = let l : length (expanded xs) ≡ length (expanded ys) + length (touches_of t) = ap length e ∙ length-append (expanded ys) (touches_of t) in omega arith
+
+pub taken_count : (xs ys : List Touched) (t : Touched) (n k : ℕ) → expanded xs ≡ expanded ys ++ touches_of t → n ≡ length (expanded xs) → k ≡ length (touches_of t) → k ≤ n
+taken_count xs ys t n k e is less = let l : length (expanded xs) ≡ length (expanded ys) + length (touches_of t) = ap length e ∙ length-append (expanded ys) (touches_of t) in omega arith
 
 pub fits_count : (ys : List Touched) (n len cap : ℕ) → n ≡ length (expanded ys) → len ≡ length ys → len ≤ cap → cap < 2 ^ 63 → n < 2 ^ 128
 fits_count ys n len cap is long le small = let s : length (expanded ys) ≤ length ys * 2 ^ 32 = expanded_short ys in omega arith

@@ -104,7 +104,8 @@ fn goes_on(entries: &[Touched], blocks: Blocks) -> bool
     if count == 0 {
         return false;
     }
-    goes_on_by(&entries[count - 1], blocks)
+    let last = count - 1;
+    goes_on_by(&entries[last], blocks)
 }
 
 /// The last entry goes on by these blocks, and the answer is whether it does. It takes no memory.
@@ -118,12 +119,26 @@ fn join_last(entries: &mut Entries, blocks: Blocks) -> bool
     if count == 0 {
         return false;
     }
-    match joined_to(&entries[count - 1], blocks) {
+    let last = count - 1;
+    match joined_to(&entries[last], blocks) {
         Some(both) => {
-            entries[count - 1] = Touched::Blocks(both);
+            entries[last] = Touched::Blocks(both);
             true
         }
         None => false,
+    }
+}
+
+/// The same by touches, which may be no blocks.
+fn join_touched(entries: &mut Entries, touched: &Touched) -> bool
+    ensures yes { result ≡ true → expanded entries.new.items
+        ≡ expanded entries.old.items ++ touches_of touched.now }
+    ensures no { result ≡ false → entries.new.items ≡ entries.old.items }
+    ensures any { HaveTouches entries.old.items → HaveTouches entries.new.items }
+{
+    match touched {
+        Touched::Blocks(blocks) => join_last(entries, *blocks),
+        Touched::One(_) => false,
     }
 }
 
@@ -136,10 +151,8 @@ fn push_entry(entries: &mut Entries, touched: Touched) -> Result<(), Touched>
     ensures any { 0 < length (touches_of touched) → HaveTouches entries.old.items
         → HaveTouches entries.new.items }
 {
-    if let Touched::Blocks(blocks) = &touched {
-        if join_last(entries, *blocks) {
-            return Ok(());
-        }
+    if join_touched(entries, &touched) {
+        return Ok(());
     }
     match entries.push(touched) {
         Ok(()) => Ok(()),
@@ -181,7 +194,8 @@ fn cut_by(touched: &Touched, most: u128) -> Option<Blocks>
 {
     match touched {
         Touched::Blocks(blocks) => {
-            if u128::from(blocks.count) > most {
+            let count = u128::from(blocks.count);
+            if count > most {
                 Some(*blocks)
             } else {
                 None
@@ -200,17 +214,21 @@ fn pop_entry(entries: &mut Entries, most: u128) -> Option<Touched>
     ensures left { HaveTouches entries.old.items → HaveTouches entries.new.items }
     ensures few { IfSome result (λ t. length (touches_of t) ≤ most) }
     ensures none { IfNone result (entries.old.items ≡ []) }
+    ensures same { IfNone result (entries.new.items ≡ entries.old.items) }
 {
     let count = entries.len();
     if count == 0 {
         return None;
     }
-    if let Some(blocks) = cut_by(&entries[count - 1], most) {
-        let (kept, gone) = cut(blocks, most as u32);
-        entries[count - 1] = Touched::Blocks(kept);
-        return Some(Touched::Blocks(gone));
+    let last = count - 1;
+    match cut_by(&entries[last], most) {
+        Some(blocks) => {
+            let (kept, gone) = cut(blocks, most as u32);
+            entries[last] = Touched::Blocks(kept);
+            Some(Touched::Blocks(gone))
+        }
+        None => entries.pop(),
     }
-    entries.pop()
 }
 
 impl Journal {
@@ -255,9 +273,13 @@ impl Journal {
         ensures err { OnErr result (self.new ≡ self.old) }
     {
         let more = u128::from(touched.count());
-        push_entry(&mut self.entries, touched)?;
-        self.count += more;
-        Ok(())
+        match push_entry(&mut self.entries, touched) {
+            Ok(()) => {
+                self.count += more;
+                Ok(())
+            }
+            Err(touched) => Err(touched),
+        }
     }
 
     /// Takes the last touches away, so many at most of those that stand together. It takes no
@@ -272,7 +294,8 @@ impl Journal {
         ensures none { IfNone result (self.old ≡ []) }
     {
         let touched = pop_entry(&mut self.entries, most)?;
-        self.count -= u128::from(touched.count());
+        let less = u128::from(touched.count());
+        self.count -= less;
         Some(touched)
     }
 
