@@ -1,5 +1,5 @@
 -- The touches of blocks that stand next to each other.
-use Rattle.std.proofs.Common.{◌≡◌, ◌∙◌, sym, refl, ap, ℕ, zero, suc, ◌+◌, Bool, List, [], ◌∷◌, ◌++◌, length, arith}
+use Rattle.std.proofs.Common.{◌≡◌, ◌∙◌, sym, refl, ap, ℕ, zero, suc, ◌+◌, Bool, [], ◌∷◌, ◌++◌, length, arith}
 use Rattle.model.specs.Aspects.{Block}
 use Rattle.model.specs.Steps.{Touch}
 use Rattle.touches.specs.Expanded.{touches_of_blocks}
