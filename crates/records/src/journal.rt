@@ -64,7 +64,8 @@ fn joined(before: Blocks, blocks: Blocks) -> Option<Blocks>
     if !stand_behind(before, blocks) {
         return None;
     }
-    let count = before.count.checked_add(blocks.count)?;
+    let own = before.count;
+    let count = own.checked_add(blocks.count)?;
     Some(Blocks {
         file: before.file,
         first: before.first,
