@@ -44,11 +44,11 @@ impl Model for Journal {
 }
 
 /// Whether these blocks stand right behind those.
-fn stand_behind(before: Blocks, blocks: Blocks) -> bool
-    ensures some { result ≡ true → 0 < before.count }
-    ensures file { result ≡ true → before.file ≡ blocks.file }
-    ensures write { result ≡ true → before.write ≡ blocks.write }
-    ensures first { result ≡ true → before.first + before.count ≡ blocks.first }
+fn stand_behind(before: &Blocks, blocks: &Blocks) -> bool
+    ensures some { result ≡ true → 0 < before.now.count }
+    ensures file { result ≡ true → before.now.file ≡ blocks.now.file }
+    ensures write { result ≡ true → before.now.write ≡ blocks.now.write }
+    ensures first { result ≡ true → before.now.first + before.now.count ≡ blocks.now.first }
 {
     if before.count == 0 || before.file != blocks.file || before.write != blocks.write {
         return false;
@@ -57,9 +57,9 @@ fn stand_behind(before: Blocks, blocks: Blocks) -> bool
 }
 
 /// Blocks and those that stand right behind them, as one.
-fn joined(before: Blocks, blocks: Blocks) -> Option<Blocks>
+fn joined(before: &Blocks, blocks: &Blocks) -> Option<Blocks>
     ensures { IfSome result (λ both. touches_of (Touched.Blocks both)
-        ≡ touches_of (Touched.Blocks before) ++ touches_of (Touched.Blocks blocks)) }
+        ≡ touches_of (Touched.Blocks before.now) ++ touches_of (Touched.Blocks blocks.now)) }
 {
     if !stand_behind(before, blocks) {
         return None;
@@ -75,31 +75,31 @@ fn joined(before: Blocks, blocks: Blocks) -> Option<Blocks>
 }
 
 /// The same of an entry, which may be no blocks.
-fn joined_to(before: &Touched, blocks: Blocks) -> Option<Blocks>
+fn joined_to(before: &Touched, blocks: &Blocks) -> Option<Blocks>
     ensures { IfSome result (λ both. touches_of (Touched.Blocks both)
-        ≡ touches_of before.now ++ touches_of (Touched.Blocks blocks)) }
+        ≡ touches_of before.now ++ touches_of (Touched.Blocks blocks.now)) }
 {
     match before {
-        Touched::Blocks(before) => joined(*before, blocks),
+        Touched::Blocks(before) => joined(before, blocks),
         Touched::One(_) => None,
     }
 }
 
 /// Whether an entry goes on by these blocks.
-fn goes_on_by(before: &Touched, blocks: Blocks) -> bool
+fn goes_on_by(before: &Touched, blocks: &Blocks) -> bool
     ensures { result ≡ true
-        → GoesOnBy (touches_of before.now) blocks.file blocks.first blocks.write }
+        → GoesOnBy (touches_of before.now) blocks.now.file blocks.now.first blocks.now.write }
 {
     match before {
-        Touched::Blocks(before) => stand_behind(*before, blocks),
+        Touched::Blocks(before) => stand_behind(before, blocks),
         Touched::One(_) => false,
     }
 }
 
 /// Whether the last entry goes on by these blocks.
-fn goes_on(entries: &[Touched], blocks: Blocks) -> bool
+fn goes_on(entries: &[Touched], blocks: &Blocks) -> bool
     ensures { result ≡ true
-        → GoesOnBy (expanded entries.now) blocks.file blocks.first blocks.write }
+        → GoesOnBy (expanded entries.now) blocks.now.file blocks.now.first blocks.now.write }
 {
     let count = entries.len();
     if count == 0 {
@@ -110,9 +110,9 @@ fn goes_on(entries: &[Touched], blocks: Blocks) -> bool
 }
 
 /// The last entry goes on by these blocks, and the answer is whether it does. It takes no memory.
-fn join_last(entries: &mut Entries, blocks: Blocks) -> bool
+fn join_last(entries: &mut Entries, blocks: &Blocks) -> bool
     ensures yes { result ≡ true → expanded entries.new.items
-        ≡ expanded entries.old.items ++ touches_of (Touched.Blocks blocks) }
+        ≡ expanded entries.old.items ++ touches_of (Touched.Blocks blocks.now) }
     ensures no { result ≡ false → entries.new.items ≡ entries.old.items }
     ensures any { HaveTouches entries.old.items → HaveTouches entries.new.items }
 {
@@ -138,7 +138,7 @@ fn join_touched(entries: &mut Entries, touched: &Touched) -> bool
     ensures any { HaveTouches entries.old.items → HaveTouches entries.new.items }
 {
     match touched {
-        Touched::Blocks(blocks) => join_last(entries, *blocks),
+        Touched::Blocks(blocks) => join_last(entries, blocks),
         Touched::One(_) => false,
     }
 }
@@ -258,8 +258,9 @@ impl Journal {
     }
 
     /// Whether these blocks stand right behind those that came last.
-    pub fn goes_on(&self, blocks: Blocks) -> bool
-        ensures { result ≡ true → GoesOnBy self.now blocks.file blocks.first blocks.write }
+    pub fn goes_on(&self, blocks: &Blocks) -> bool
+        ensures { result ≡ true
+            → GoesOnBy self.now blocks.now.file blocks.now.first blocks.now.write }
     {
         goes_on(self.entries.as_slice(), blocks)
     }

@@ -102,12 +102,12 @@ fn note_part(
         pid,
         write: blocks.write,
     };
-    let goes_on = journals.goes_on(pid, blocks);
-    enter_part(heap, rows, user, blocks.first, last, goes_on)?;
+    let goes_on = journals.goes_on(pid, &blocks);
+    enter_part(heap, rows, &user, blocks.first, last, goes_on)?;
     match journals.push(pid, Touched::Blocks(blocks)) {
         Ok(()) => Ok(()),
         Err(_) => {
-            leave_blocks(rows, user, blocks.first, last);
+            leave_blocks(rows, &user, blocks.first, last);
             Err(AllocError)
         }
     }
@@ -141,7 +141,7 @@ fn note_first(
         write: blocks.write,
     };
     let last = blocks.first + (blocks.count - 1);
-    let part = part_at(rows, user, blocks.first, last);
+    let part = part_at(rows, &user, blocks.first, last);
     let count = part.last - blocks.first + 1;
     if part.is_used {
         return Ok(count);
@@ -201,7 +201,7 @@ fn leave_run(rows: &mut Rows, pid: Pid, blocks: Blocks)
         write: blocks.write,
     };
     let last = blocks.first + (blocks.count - 1);
-    leave_blocks(rows, user, blocks.first, last);
+    leave_blocks(rows, &user, blocks.first, last);
 }
 
 /// A touch more of a process, unless it has it already, with its use; one that it has takes no

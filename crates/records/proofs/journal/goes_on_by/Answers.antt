@@ -9,7 +9,7 @@ use Rattle.records.proofs.journal.goes_on_by.Goals as goal
 pub returns-in-Blocks : goal.returns-in-Blocks
 returns-in-Blocks c = λ yes.
     let a = c.in-Blocks.before in
-    let b = c.args.blocks in
+    let b = c.args.blocks.now in
     let is = c.stand_behind.ensures in
     subst (λ (t : Touched). GoesOnBy (touches_of t) b.file b.first b.write) (sym c.in-Blocks.is)
     (behind_is a.file a.first a.count b.file b.first a.write b.write (is.some yes) (is.file yes) (is.write yes) (is.first yes))

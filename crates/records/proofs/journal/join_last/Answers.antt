@@ -7,9 +7,9 @@ use Rattle.records.proofs.journal.join_last.Goals as goal
 pub returns-in-Some-clause-yes : goal.returns-in-Some-clause-yes
 returns-in-Some-clause-yes c = λ yes.
     let some = c.if-count-eq0.false in
-    expanded_more c.args.entries.now.items (c.len-count.result - 1) c.index-entries-last.result (Blocks c.in-Some.both) (touches_of (Blocks c.args.blocks)) (omega arith) c.index-entries-last.is c.in-Some.ensures
+    expanded_more c.args.entries.now.items (c.len-count.result - 1) c.index.result.now (Blocks c.in-Some.both) (touches_of (Blocks c.args.blocks.now)) (omega arith) c.index.ensures c.in-Some.ensures
 
 pub returns-in-Some-clause-any : goal.returns-in-Some-clause-any
 returns-in-Some-clause-any c = λ have.
     let some = c.if-count-eq0.false in
-    have_more c.args.entries.now.items (c.len-count.result - 1) c.index-entries-last.result (Blocks c.in-Some.both) (touches_of (Blocks c.args.blocks)) (omega arith) c.index-entries-last.is c.in-Some.ensures have
+    have_more c.args.entries.now.items (c.len-count.result - 1) c.index.result.now (Blocks c.in-Some.both) (touches_of (Blocks c.args.blocks.now)) (omega arith) c.index.ensures c.in-Some.ensures have

@@ -5,8 +5,8 @@ use Rattle.records.proofs.journal.joined.Goals as goal
 
 pub returns : goal.returns
 returns c =
-    let a = c.args.before in
-    let b = c.args.blocks in
+    let a = c.args.before.now in
+    let b = c.args.blocks.now in
     let yes = c.if-not-stand_behind.false in
     let e : c.in_ok-count.count ≡ a.count + b.count = omega arith in
     ap (λ n. touches_of_blocks a.file a.first n a.write) e

@@ -10,7 +10,7 @@ use Rattle.records.proofs.journal.pop_entry.Goals as goal
 pub returns-in-Some-clause-some : goal.returns-in-Some-clause-some
 returns-in-Some-clause-some c =
     let some = c.if-count-eq0.false in
-    expanded_less c.args.entries.now.items (c.len-count.result - 1) c.index-entries-last.result (Blocks c.cut-kept.result.0) (touches_of (Blocks c.cut-kept.result.1)) (omega arith) c.index-entries-last.is
+    expanded_less c.args.entries.now.items (c.len-count.result - 1) c.index.result.now (Blocks c.cut-kept.result.0) (touches_of (Blocks c.cut-kept.result.1)) (omega arith) c.index.ensures
     (ap touches_of c.in-Some.ensures.same ∙ c.cut-kept.ensures.both)
 
 pub returns-in-Some-clause-any : goal.returns-in-Some-clause-any
@@ -47,7 +47,7 @@ returns-in-None-clause-left c = λ have. (have_popped c.args.entries.now.items c
 pub returns-in-None-clause-few : goal.returns-in-None-clause-few
 returns-in-None-clause-few c =
     let some = c.if-count-eq0.false in
-    last_few c.args.entries.now.items c.pop.new.self.items (c.len-count.result - 1) c.args.most c.index-entries-last.result c.pop.result (omega arith) c.index-entries-last.is c.pop.ensures.items c.in-None.ensures.few
+    last_few c.args.entries.now.items c.pop.new.self.items (c.len-count.result - 1) c.args.most c.index.result.now c.pop.result (omega arith) c.index.ensures c.pop.ensures.items c.in-None.ensures.few
 
 pub returns-in-None-clause-none : goal.returns-in-None-clause-none
 returns-in-None-clause-none c =

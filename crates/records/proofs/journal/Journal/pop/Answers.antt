@@ -8,8 +8,8 @@ use Rattle.records.proofs.Lasts.{taken_count, uncounted}
 use Rattle.records.proofs.Suffix.{once_before}
 use Rattle.records.proofs.journal.Journal.pop.Goals as goal
 
-pub invariant_of-self-in_err-touched : goal.invariant_of-self-in_err-touched
-invariant_of-self-in_err-touched c =
+pub invariant_of-self : goal.invariant_of-self
+invariant_of-self c =
     subst (λ (es : List Touched). (distinct (expanded es) ≡ expanded es) × (c.self.inside.count ≡ length (expanded es)) × HaveTouches es) (sym c.in_err-touched.ensures.same) c.self.invariant
 
 pub overflow_sub-self : goal.overflow_sub-self
@@ -17,8 +17,8 @@ overflow_sub-self c =
     let less : c.from-less.result ≡ length (touches_of c.in_ok-touched.touched) = omega arith in
     taken_count c.self.inside.entries.items c.pop_entry.new.entries.items c.in_ok-touched.touched c.self.inside.count c.from-less.result c.in_ok-touched.ensures.some c.self.invariant.1 less
 
-pub invariant_of-self : goal.invariant_of-self
-invariant_of-self c =
+pub invariant_of-self-2 : goal.invariant_of-self-2
+invariant_of-self-2 c =
     let xs = c.self.inside.entries.items in
     let ys = c.pop_entry.new.entries.items in
     let t = c.in_ok-touched.touched in

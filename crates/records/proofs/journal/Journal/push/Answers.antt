@@ -17,8 +17,8 @@ overflow_add-self c =
           (counted c.self.inside.entries.items v.items c.args.touched c.self.inside.count c.from-more.result c.in-Ok.ensures.ok c.self.invariant.1 more) v.ok.0 v.ok.1 v.small;
     }
 
-pub invariant_of-self-in-Ok : goal.invariant_of-self-in-Ok
-invariant_of-self-in-Ok c =
+pub invariant_of-self : goal.invariant_of-self
+invariant_of-self c =
     let xs = c.self.inside.entries.items in
     let v = c.push_entry.new.entries in
     let ts = touches_of c.args.touched in
