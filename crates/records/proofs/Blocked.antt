@@ -61,14 +61,14 @@ others_at caller b i t w hs h lt is =
     ∙ others_first caller b t w h (drop (i + 1) hs)
 
 pub others_taken : (caller b i : ℕ) (t : Touch) (w : Bool) (hs : List Holding) (h : Holding) (found new : List Mark) → i < length hs → h ≡ get_or hs i h → is_others caller w b h ≡ true → new ≡ found ++ mark_of h.pid t ∷ [] → new ++ others_in caller t w b (drop (i + 1) hs) ≡ found ++ others_in caller t w b (drop i hs)
-others_taken caller b i t w hs h found new lt is yes e =
+others_taken caller b i t w hs h found new lt is passes e =
     ap (λ l. l ++ others_in caller t w b (drop (i + 1) hs)) e
     ∙ append_assoc found (mark_of h.pid t ∷ []) (others_in caller t w b (drop (i + 1) hs))
-    ∙ ap (λ l. found ++ l) (sym (others_at caller b i t w hs h lt is ∙ ap (λ k. if k then mark_of h.pid t ∷ others_in caller t w b (drop (i + 1) hs) else others_in caller t w b (drop (i + 1) hs)) yes))
+    ∙ ap (λ l. found ++ l) (sym (others_at caller b i t w hs h lt is ∙ ap (λ k. if k then mark_of h.pid t ∷ others_in caller t w b (drop (i + 1) hs) else others_in caller t w b (drop (i + 1) hs)) passes))
 
 pub others_passed : (caller b i : ℕ) (t : Touch) (w : Bool) (hs : List Holding) (h : Holding) (found : List Mark) → i < length hs → h ≡ get_or hs i h → is_others caller w b h ≡ false → found ++ others_in caller t w b (drop (i + 1) hs) ≡ found ++ others_in caller t w b (drop i hs)
-others_passed caller b i t w hs h found lt is no =
-    ap (λ l. found ++ l) (sym (others_at caller b i t w hs h lt is ∙ ap (λ k. if k then mark_of h.pid t ∷ others_in caller t w b (drop (i + 1) hs) else others_in caller t w b (drop (i + 1) hs)) no))
+others_passed caller b i t w hs h found lt is off =
+    ap (λ l. found ++ l) (sym (others_at caller b i t w hs h lt is ∙ ap (λ k. if k then mark_of h.pid t ∷ others_in caller t w b (drop (i + 1) hs) else others_in caller t w b (drop (i + 1) hs)) off))
 
 module _ (lists : List (List Touch)) (p : Places) (f b caller : ℕ) (are : AreRowsOf lists p) where
   abbrev row : Option (List Holding)

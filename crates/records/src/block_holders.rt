@@ -55,7 +55,7 @@ pub fn collect_users(
     block: u32,
 ) -> Result<Found, AllocError>
     ensures { IfOk result (λ r. r.items ≡ marks_on_block caller touch.now.aspect touch.now.write block
-        (holdings_of (option_copied row))) }
+        (holdings_of (option_copied row.entry))) }
 {
     let found = Vec::new(heap);
     let Some(row) = row else {

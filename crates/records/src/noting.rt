@@ -106,7 +106,8 @@ fn note_part(
     enter_part(heap, rows, &user, blocks.first, last, goes_on)?;
     match journals.push(pid, Touched::Blocks(blocks)) {
         Ok(()) => Ok(()),
-        Err(_) => {
+        Err(refused) => {
+            drop(refused);
             leave_blocks(rows, &user, blocks.first, last);
             Err(AllocError)
         }
@@ -174,13 +175,19 @@ fn note_blocks(
     ensures rows { AreRowsOf journals.new (places_of rows.new) }
     ensures indexed { all_without_blocks journals.new ≡ all_without_blocks journals.old }
 {
+    let Blocks {
+        file,
+        first,
+        count,
+        write,
+    } = blocks;
     let mut done = 0;
-    while done < blocks.count {
+    while done < count {
         let rest = Blocks {
-            file: blocks.file,
-            first: blocks.first + done,
-            count: blocks.count - done,
-            write: blocks.write,
+            file,
+            first: first + done,
+            count: count - done,
+            write,
         };
         done += note_first(heap, journals, rows, pid, rest)?;
     }
@@ -225,9 +232,10 @@ fn note_touch(
     ensures rows { AreRowsOf journals.new (places_of rows.new) }
     ensures listed { ListsWritten index.old → ListsWritten index.new }
 {
-    match touch.aspect {
+    match &touch.aspect {
         Aspect::Block(file, block) => {
-            note_blocks(heap, journals, rows, pid, only(file, block, touch.write))
+            let blocks = only(*file, *block, touch.write);
+            note_blocks(heap, journals, rows, pid, blocks)
         }
         _ => note_one(heap, journals, index, pid, touch),
     }

@@ -12,7 +12,7 @@ use Rattle.records.proofs.noting.note_touch.Goals as goal
 
 pub returns-in-Block-clause-ok : goal.returns-in-Block-clause-ok
 returns-in-Block-clause-ok c =
-    let same : touches_of (Blocks c.only.result) ≡ c.args.touch ∷ [] = c.only.ensures.one ∙ sym (ap (λ (a : Aspect). record { aspect = a; write = c.args.touch.write } ∷ []) c.in-Block.is) in
+    let same : touches_of (Blocks c.only-blocks.result) ≡ c.args.touch ∷ [] = c.only-blocks.ensures.one ∙ sym (ap (λ (a : Aspect). record { aspect = a; write = c.args.touch.write } ∷ []) c.in-Block.is) in
     subst (λ (ts : List Touch). OnOk c.note_blocks.result (c.note_blocks.new.journals ≡ set c.args.journals.now c.args.pid (with_touches (touched_by c.args.journals.now c.args.pid) ts))) same c.note_blocks.ensures.ok
 
 pub returns-in-Block-clause-indexed : goal.returns-in-Block-clause-indexed

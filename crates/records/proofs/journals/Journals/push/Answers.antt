@@ -1,4 +1,4 @@
-use Rattle.std.proofs.Common.{◌≡◌, ◌≤◌, ◌<◌, ◌+◌, ◌++◌, ap, length, vec_len, vec_capacity, arith}
+use Rattle.std.proofs.Common.{◌≡◌, ◌≤◌, ◌<◌, ◌+◌, ◌^◌, ◌++◌, ap, length, vec_len, vec_capacity, arith}
 use Rattle.std.proofs.lemmas.List.{length-append}
 use Rattle.touches.specs.Expanded.{touches_of}
 use Rattle.records.specs.Active.{active_in}
@@ -14,15 +14,15 @@ overflow_add-self c =
     let count : vec_len v ≡ length v.items = v.ok.0 in
     let room : vec_len v ≤ vec_capacity v = v.ok.1 in
     let small : vec_capacity v < 2 ^ 63 = v.small in
-    let one : c.from.result + one_if (touched_by v.items c.args.pid) ≡ 1 = rw c.self.view_is (none_or_one (touched_by c.args.self.now c.args.pid) c.count.result c.from.result c.count.ensures c.from.ensures) in
+    let one : c.from.result + one_if (touched_by v.items c.args.pid) ≡ 1 = rw c.self.view_is (none_or_one (touched_by c.args.self.now c.args.pid) c.count-first.result c.from.result c.count-first.ensures c.from.ensures) in
     record { fits = omega arith }
 
-pub invariant_of-self-in-Ok : goal.invariant_of-self-in-Ok
-invariant_of-self-in-Ok c =
+pub invariant_of-self : goal.invariant_of-self
+invariant_of-self c =
     let js = c.self.inside.list.items in
     let ts = touches_of c.args.touched in
     let within : c.args.pid < length js = rw c.self.view_is c.requires.within in
     let long : length (touched_by js c.args.pid ++ ts) ≡ length (touched_by js c.args.pid) + length ts = length-append (touched_by js c.args.pid) ts in
     let some = c.requires.some in
-    let one : c.from.result + one_if (touched_by js c.args.pid) ≡ 1 = rw c.self.view_is (none_or_one (touched_by c.args.self.now c.args.pid) c.count.result c.from.result c.count.ensures c.from.ensures) in
+    let one : c.from.result + one_if (touched_by js c.args.pid) ≡ 1 = rw c.self.view_is (none_or_one (touched_by c.args.self.now c.args.pid) c.count-first.result c.from.result c.count-first.ensures c.from.ensures) in
     active_more js c.push_to.new.journals.items c.args.pid c.self.inside.active c.from.result (touched_by js c.args.pid ++ ts) within c.in-Ok.ensures.ok c.self.invariant (omega arith) one
