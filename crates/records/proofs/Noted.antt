@@ -12,7 +12,7 @@ use Rattle.touches.proofs.Runs.{block_touch, blocks_append, length-blocks}
 use Rattle.records.specs.declared.index.Index.{Index}
 use Rattle.records.specs.declared.row.Holding.{Holding}
 use Rattle.records.specs.Codes.{is_touch}
-use Rattle.records.specs.Groups.{alike, among}
+use Rattle.records.specs.Groups.{alike, among, AreDistinct}
 use Rattle.records.specs.Index.{has, users_on, IsIndexed}
 use Rattle.records.specs.Marks.{mark_of}
 use Rattle.records.specs.Runs.{GoesOnBy, IsShorter}
@@ -253,6 +253,13 @@ enrolled_as (Err e) js ks ok err q = ap (λ l. touched_by l q) err
 
 pub other_shrunk : (js ks : List (List Touch)) (s : Index) → IsIndexed (all_without_blocks js) s → 0 < length js → touched_by js (length js - 1) ≡ [] → ks ≡ take (length js - 1) js → IsIndexed (all_without_blocks ks) s
 other_shrunk js ks s indexed some untouched e = other_same js ks s (shrunk_same js ks some untouched e) indexed
+
+-- and nobody uses anything
+pub other_none : (js : List (List Touch)) (n : Index) → ((q : ℕ) → touched_by js q ≡ []) → ((u : Touch) → users_on n u ≡ []) → IsIndexed (all_without_blocks js) n
+other_none js n empty none = record {
+  each = λ m. ap (among m.pid) (none m.touch) ∙ sym (ap (has m.touch) (touched_without js m.pid ∙ ap without_blocks (empty m.pid)));
+  once = λ t. subst AreDistinct (sym (none t)) tt;
+}
 
 pub inside_set : (js ks : List (List Touch)) (pid : ℕ) (l : List Touch) → ks ≡ set js pid l → pid < length js → pid < length ks
 inside_set js ks pid l e lt = subst (λ n. pid < n) (sym (ap length e ∙ length-set js pid l)) lt
