@@ -2,6 +2,7 @@
 -- that cannot be the first.
 use Rattle.std.proofs.Common.{◌≡◌, ◌∙◌, sym, refl, ap, subst, ℕ, Bool, true, false, cond, ◌||◌, ◌==◌, List, [], ◌∷◌, ◌++◌, Option, Some, None, if◌then◌else◌, append_assoc}
 use Rattle.std.specs.BTreeSet.{BTreeSet, contains}
+use Rattle.std.specs.List.{list_any}
 use Rattle.std.specs.Option.{option_or}
 use Rattle.std.specs.Ordering.{is_eq, nat_cmp}
 use Rattle.std.proofs.lemmas.Bool.{false≢true, eqb-true, eq-eqb}
@@ -117,3 +118,8 @@ met_noted before after xs c was updates q has = by (is_eq (nat_cmp c.other q)) r
   by : (b : Bool) → is_eq (nat_cmp c.other q) ≡ b → is_met q (xs ++ c ∷ []) ≡ true
   by true e = ap (λ p. is_met p (xs ++ c ∷ [])) (sym (nat_cmp-IsAntisymmetric c.other q (tie (nat_cmp c.other q) e))) ∙ met_last xs c
   by false e = met_before q xs c (was q (sym (updates q ∙ ap (λ b. cond b true (contains nat_cmp before q)) e) ∙ has))
+
+-- a clash more, where no process was noted with it
+pub still_met : (before after : BTreeSet ℕ) (xs : List Clash) (c : Clash) → ((q : ℕ) → contains nat_cmp before q ≡ true → is_met q xs ≡ true)
+    → after.keys ≡ before.keys → (q : ℕ) → contains nat_cmp after q ≡ true → is_met q (xs ++ c ∷ []) ≡ true
+still_met before after xs c was same q has = met_before q xs c (was q (sym (ap (λ (ks : List ℕ). list_any (λ k. is_eq (nat_cmp q k)) ks) same) ∙ has))

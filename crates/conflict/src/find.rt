@@ -139,18 +139,24 @@ impl FirstClashes {
             (touches_of_blocks blocks.file blocks.first blocks.count blocks.write) own
             × AreFirstsOf (self.old ++ own) self.new) }
     {
-        if blocks.count == 0 {
+        let Blocks {
+            file,
+            first,
+            count,
+            write,
+        } = blocks;
+        if count == 0 {
             return Ok(());
         }
-        let last = blocks.first + (blocks.count - 1);
-        let mut block = blocks.first;
+        let last = first + (count - 1);
+        let mut block = first;
         'rows: loop {
             let touch = Touch {
-                aspect: Aspect::Block(blocks.file, block),
-                write: blocks.write,
+                aspect: Aspect::Block(file, block),
+                write,
             };
             self.add_one(records, caller, &touch)?;
-            match records.next_start(blocks.file, block, last) {
+            match records.next_start(file, block, last) {
                 Some(next) => block = next,
                 None => return Ok(()),
             }

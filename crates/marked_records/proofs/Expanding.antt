@@ -196,6 +196,13 @@ module _ (d : ℕ) (xs : List Touched) (i : ℕ) (x : Touched) (count left n : �
 pub ends_all : (d count left : ℕ) (xs : List Touched) → left + length (expanded xs) ≡ count → marks_at d (expanded xs) ≡ marks_at d (take count (expanded xs))
 ends_all d count left xs e = all_reached d (expanded xs) count (omega arith)
 
+pub all_gone : (d count left n i : ℕ) (xs : List Touched) → n ≡ length xs → length xs ≤ i → (left ≡ 0 → marks_at d (expanded (take i xs)) ≡ marks_at d (take count (expanded xs))) → (0 < left → left + length (expanded (take i xs)) ≡ count)
+    → marks_at d (expanded (take n xs)) ≡ marks_at d (take count (expanded xs))
+all_gone d count zero n i xs e le none some = ap (λ l. marks_at d (expanded l)) (take_all n xs (omega arith) ∙ sym (take_all i xs le)) ∙ none refl
+all_gone d count (suc left) n i xs e le none some =
+    ap (λ l. marks_at d (expanded l)) (take_all n xs (omega arith))
+    ∙ ends_all d count (suc left) xs (ap (λ l. suc left + length (expanded l)) (sym (take_all i xs le)) ∙ some (omega arith))
+
 -- what is held lies between two that are the same
 bool_same : (a b : Bool) → (a ≡ true → b ≡ true) → (b ≡ true → a ≡ true) → a ≡ b
 bool_same true b f g = sym (f refl)

@@ -1,8 +1,8 @@
 -- How many processes have touched something, as one journal changes.
-use Rattle.std.proofs.Common.{◌≡◌, ◌≢◌, ◌∙◌, sym, refl, ap, ℕ, zero, suc, ◌≤◌, ◌<◌, ◌+◌, Bool, true, false, cond, List, [], ◌∷◌, length, set, arith}
+use Rattle.std.proofs.Common.{◌≡◌, ◌≢◌, ◌∙◌, sym, refl, ap, ℕ, zero, suc, ◌≤◌, ◌<◌, ◌+◌, ◌-◌, ◌==◌, Bool, true, false, cond, List, [], ◌∷◌, length, set, arith}
 use Rattle.std.specs.Prelude.{nat_lt}
 use Rattle.std.specs.Int.{from_bool}
-use Rattle.std.proofs.lemmas.Bool.{ltb-false}
+use Rattle.std.proofs.lemmas.Bool.{ltb-false, ne_eqb}
 use Rattle.std.proofs.lemmas.Bool.Decides.{nat_tests}
 use Rattle.std.proofs.lemmas.List.{get_or_past}
 use Rattle.std.proofs.lemmas.List.Sums.{sum_by-cons}
@@ -77,6 +77,46 @@ pub one_of : (ts : List Touch) → 0 < length ts → one_if ts ≡ 1
 one_of [] some = absurd (omega arith)
 one_of (t ∷ ts) some = refl
 
-pub none_of : (ts : List Touch) → length ts ≡ 0 → one_if ts ≡ 0
-none_of [] none = refl
-none_of (t ∷ ts) none = absurd (omega arith)
+-- no more processes than there are have touched something
+pub active_few : (lists : List (List Touch)) → active_in lists ≤ length lists
+active_few [] = omega arith
+active_few (l ∷ lists) =
+    let a : active_in (l ∷ lists) ≡ one_if l + active_in lists = first_counts l lists in
+    let b : active_in lists ≤ length lists = active_few lists in
+    let one : one_if l ≤ 1 = at_most l in
+    let n : length (l ∷ lists) ≡ length lists + 1 = omega arith in
+    omega arith where
+  at_most : (ts : List Touch) → one_if ts ≤ 1
+  at_most [] = omega arith
+  at_most (t ∷ ts) = omega arith
+
+-- whether there is none, and whether there is one
+pub none_or_one : (ts : List Touch) (n own : ℕ) → n ≡ length ts → own ≡ from_bool (n == 0) → own + one_if ts ≡ 1
+none_or_one [] n own is one =
+    let z : own ≡ 1 = one ∙ ap (λ m. from_bool (m == 0)) is in
+    let k : one_if [] ≡ 0 = refl in
+    omega arith
+none_or_one (t ∷ ts) n own is one =
+    let z : own ≡ 0 = one ∙ ap (λ m. from_bool (m == 0)) is ∙ ap from_bool (ne_eqb (suc (length ts)) 0 (λ h. absurd (omega arith))) in
+    let k : one_if (t ∷ ts) ≡ 1 = refl in
+    omega arith
+
+pub some_as_one : (ts : List Touch) (n own : ℕ) → n ≡ length ts → own ≡ from_bool (nat_lt 0 n) → own ≡ one_if ts
+some_as_one ts n own is one = one ∙ ap (λ m. from_bool (nat_lt 0 m)) is ∙ ap from_bool (active_by ts) ∙ as_one (is_active ts) ts refl
+
+-- one journal grows, is cut or is emptied
+module _ (js ks : List (List Touch)) (p active own : ℕ) (l : List Touch) (within : p < length js) (set_is : ks ≡ set js p l) (all : active ≡ active_in js) where
+  counts : active_in ks + one_if (touched_by js p) ≡ active_in js + one_if l
+  counts = ap (λ x. active_in x + one_if (touched_by js p)) set_is ∙ active_set js p l within
+
+  pub active_more : 0 < length l → own + one_if (touched_by js p) ≡ 1 → active + own ≡ active_in ks
+  active_more some first = let c = counts in let one : one_if l ≡ 1 = one_of l some in omega arith
+
+  pub active_less : 0 < length (touched_by js p) → own + one_if l ≡ 1 → active - own ≡ active_in ks
+  active_less some last = let c = counts in let one : one_if (touched_by js p) ≡ 1 = one_of (touched_by js p) some in omega arith
+
+  pub active_none : l ≡ [] → own ≡ one_if (touched_by js p) → active - own ≡ active_in ks
+  active_none none one = let c = counts in let z : one_if l ≡ 0 = ap one_if none in omega arith
+
+pub own_active : (js : List (List Touch)) (p active own : ℕ) → active ≡ active_in js → own ≤ one_if (touched_by js p) → own ≤ active
+own_active js p active own all few = let h : one_if (touched_by js p) ≤ active_in js = own_counts js p in omega arith

@@ -1,9 +1,9 @@
 -- The entries of a journal and the touches that they stand for, as the last one changes, comes or goes.
 use Rattle.std.proofs.Common.{◌≡◌, ◌∙◌, sym, refl, ap, subst, ℕ, zero, suc, ◌+◌, ◌-◌, ◌*◌, ◌^◌, ◌<◌, ◌≤◌, Bool, true, false, Option, Some, None, List, [], ◌∷◌, ◌++◌, length, get_or, set, take, append_assoc, arith}
-use Rattle.std.specs.Prelude.{IfSome, IfNone}
+use Rattle.std.specs.Prelude.{IfSome, IfNone, MatchOption}
 use Rattle.std.specs.Option.{option_to_list}
 use Rattle.std.specs.List.{AllByRecursion}
-use Rattle.std.proofs.lemmas.List.{append-nil, length-append}
+use Rattle.std.proofs.lemmas.List.{append-nil, length-append, same_from_push}
 use Rattle.model.specs.Aspects.{Block}
 use Rattle.model.specs.Steps.{Touch}
 use Rattle.touches.specs.declared.touched.Touched.{Touched}
@@ -53,9 +53,17 @@ pub expanded_popped : (xs ys : List Touched) (o : Option Touched) → xs ≡ ys 
 expanded_popped xs ys (Some t) e = ap expanded e ∙ expanded_push ys t
 expanded_popped xs ys None e = tt
 
-pub none_popped : (xs ys : List Touched) (o : Option Touched) → xs ≡ ys ++ option_to_list o → ys ≡ [] → IfNone o (xs ≡ [])
-none_popped xs ys (Some t) e none = tt
-none_popped xs ys None e none = e ∙ append-nil ys ∙ none
+pub none_popped : (xs : List Touched) (n m : ℕ) (o : Option Touched) → 0 < n → MatchOption o ((n ≡ 0) × (m ≡ 0)) (λ _. m + 1 ≡ n) → IfNone o (xs ≡ [])
+none_popped xs n m (Some t) some cases = tt
+none_popped xs n m None some cases = let none : n ≡ 0 = cases.0 in absurd (omega arith)
+
+pub none_same : (xs ys : List Touched) (o : Option Touched) → xs ≡ ys ++ option_to_list o → IfNone o (ys ≡ xs)
+none_same xs ys (Some t) e = tt
+none_same xs ys None e = sym (e ∙ append-nil ys)
+
+pub last_few : (xs ys : List Touched) (i most : ℕ) (x : Touched) (o : Option Touched) → length xs ≡ suc i → x ≡ get_or xs i x → xs ≡ ys ++ option_to_list o → length (touches_of x) ≤ most → IfSome o (λ t. length (touches_of t) ≤ most)
+last_few xs ys i most x (Some t) long is e few = subst (λ u. length (touches_of u) ≤ most) (same_from_push (take i xs) ys x t (sym (at_last xs i x long is) ∙ e)).1 few
+last_few xs ys i most x None long is e few = tt
 
 -- each entry has touches
 has_last : (xs : List Touched) (i : ℕ) (x : Touched) → length xs ≡ suc i → x ≡ get_or xs i x → HaveTouches xs → 0 < length (touches_of x)
@@ -120,15 +128,15 @@ cut_is f a n gone v le =
     ap (λ m. touches_of_blocks f a m v) (sym e) ∙ sym (blocks_append f a (n - gone) gone v)
 
 -- each entry has few touches, so that all can be counted
-entry_short : (t : Touched) → length (touches_of t) ≤ 2 ^ 32
+entry_short : (t : Touched) → length (touches_of t) ≤ 2 ^ 64
 entry_short (One t) = omega arith
-entry_short (Blocks r) = let e : length (touches_of (Blocks r)) ≡ r.count = length-blocks r.file r.first r.count r.write in let i : r.first + r.count ≤ 2 ^ 32 = r.in_range in omega arith
+entry_short (Blocks r) = let e : length (touches_of (Blocks r)) ≡ r.count = length-blocks r.file r.first r.count r.write in let i : r.first + r.count ≤ 2 ^ 64 = r.in_range in omega arith
 
-pub expanded_short : (xs : List Touched) → length (expanded xs) ≤ length xs * 2 ^ 32
+pub expanded_short : (xs : List Touched) → length (expanded xs) ≤ length xs * 2 ^ 64
 expanded_short [] = omega arith
 expanded_short (x ∷ xs) =
-    let a : length (touches_of x) ≤ 2 ^ 32 = entry_short x in
-    let b : length (expanded xs) ≤ length xs * 2 ^ 32 = expanded_short xs in
+    let a : length (touches_of x) ≤ 2 ^ 64 = entry_short x in
+    let b : length (expanded xs) ≤ length xs * 2 ^ 64 = expanded_short xs in
     let e : length (expanded (x ∷ xs)) ≡ length (touches_of x) + length (expanded xs) = length-append (touches_of x) (expanded xs) in
     let n : length (x ∷ xs) ≡ length xs + 1 = omega arith in
     omega arith
@@ -141,5 +149,8 @@ counted xs ys t n k e is more = let l : length (expanded ys) ≡ length (expande
 pub uncounted : (xs ys : List Touched) (t : Touched) (n k : ℕ) → expanded xs ≡ expanded ys ++ touches_of t → n ≡ length (expanded xs) → k ≡ length (touches_of t) → n - k ≡ length (expanded ys)
 uncounted xs ys t n k e is less = let l : length (expanded xs) ≡ length (expanded ys) + length (touches_of t) = ap length e ∙ length-append (expanded ys) (touches_of t) in omega arith
 
+pub taken_count : (xs ys : List Touched) (t : Touched) (n k : ℕ) → expanded xs ≡ expanded ys ++ touches_of t → n ≡ length (expanded xs) → k ≡ length (touches_of t) → k ≤ n
+taken_count xs ys t n k e is less = let l : length (expanded xs) ≡ length (expanded ys) + length (touches_of t) = ap length e ∙ length-append (expanded ys) (touches_of t) in omega arith
+
 pub fits_count : (ys : List Touched) (n len cap : ℕ) → n ≡ length (expanded ys) → len ≡ length ys → len ≤ cap → cap < 2 ^ 63 → n < 2 ^ 128
-fits_count ys n len cap is long le small = let s : length (expanded ys) ≤ length ys * 2 ^ 32 = expanded_short ys in omega arith
+fits_count ys n len cap is long le small = let s : length (expanded ys) ≤ length ys * 2 ^ 64 = expanded_short ys in omega arith

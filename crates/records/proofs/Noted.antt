@@ -12,7 +12,7 @@ use Rattle.touches.proofs.Runs.{block_touch, blocks_append, length-blocks}
 use Rattle.records.specs.declared.index.Index.{Index}
 use Rattle.records.specs.declared.row.Holding.{Holding}
 use Rattle.records.specs.Codes.{is_touch}
-use Rattle.records.specs.Groups.{alike, among}
+use Rattle.records.specs.Groups.{alike, among, AreDistinct}
 use Rattle.records.specs.Index.{has, users_on, IsIndexed}
 use Rattle.records.specs.Marks.{mark_of}
 use Rattle.records.specs.Runs.{GoesOnBy, IsShorter}
@@ -22,7 +22,7 @@ use Rattle.records.proofs.Exact.{touch_parts, aspect_is}
 use Rattle.records.proofs.Distinct.{once_pushed, once_popped}
 use Rattle.records.proofs.Gone.{rows_left}
 use Rattle.records.proofs.Grown.{as_more, from_more, entered_new, rows_entered}
-use Rattle.records.proofs.Indexing.{Enters, Leaves, has_push, enrolled_same, last_apart, indexed_added, indexed_taken, indexed_back, indexed_enrolled, indexed_cleared}
+use Rattle.records.proofs.Indexing.{Enters, Leaves, has_push, enrolled_same, last_apart, indexed_added, indexed_taken, indexed_back, indexed_cleared}
 use Rattle.records.proofs.Keeping.{one_more}
 use Rattle.records.proofs.Rowed.{row_none}
 use Rattle.records.proofs.Structure.{all_to}
@@ -205,9 +205,6 @@ same_journals js ks p same are = record {
   together = λ g y hs is. all_to (λ h. (y ≤ h.last) × StandsIn (touched_by js h.pid) g y h) (λ h. (y ≤ h.last) × StandsIn (touched_by ks h.pid) g y h) (λ h at. (at.0, subst (λ t. StandTogether t g y ((h.last + 1) - y) h.write) (sym (same h.pid)) at.1)) hs (are.together g y hs is);
 }
 
-pub rows_enrolled : (js : List (List Touch)) (p : Places) → AreRowsOf js p → AreRowsOf (js ++ [] ∷ []) p
-rows_enrolled js p are = same_journals js (js ++ [] ∷ []) p (enrolled_same js) are
-
 shrunk_same : (js ks : List (List Touch)) → 0 < length js → touched_by js (length js - 1) ≡ [] → ks ≡ take (length js - 1) js → (q : ℕ) → touched_by ks q ≡ touched_by js q
 shrunk_same js ks some untouched e q =
     sym (enrolled_same ks q)
@@ -244,17 +241,24 @@ alone_without js pid alone q ne = touched_without js q ∙ ap without_blocks (al
 pub other_cleared : (js : List (List Touch)) (n : Index) (pid : ℕ) → pid < length js → ((q : ℕ) → q ≢ pid → touched_by js q ≡ []) → ((u : Touch) → users_on n u ≡ []) → IsIndexed (all_without_blocks (set js pid [])) n
 other_cleared js n pid within alone none = subst (λ x. IsIndexed x n) (sym (without_set js pid [])) (indexed_cleared (all_without_blocks js) n pid (within_all js pid within) (alone_without js pid alone) none)
 
-without_enrolled : (js : List (List Touch)) → all_without_blocks (js ++ [] ∷ []) ≡ all_without_blocks js ++ [] ∷ []
-without_enrolled [] = refl
-without_enrolled (j ∷ js) = ap (λ l. without_blocks j ∷ l) (without_enrolled js)
+pub other_same : (js ks : List (List Touch)) (s : Index) → ((q : ℕ) → touched_by ks q ≡ touched_by js q) → IsIndexed (all_without_blocks js) s → IsIndexed (all_without_blocks ks) s
+other_same js ks s same indexed = record {
+  each = λ m. indexed.each m ∙ ap (has m.touch) (touched_without js m.pid ∙ ap without_blocks (sym (same m.pid)) ∙ sym (touched_without ks m.pid));
+  once = indexed.once;
+}
 
-pub other_enrolled : (js : List (List Touch)) (s : Index) → IsIndexed (all_without_blocks js) s → IsIndexed (all_without_blocks (js ++ [] ∷ [])) s
-other_enrolled js s indexed = subst (λ x. IsIndexed x s) (sym (without_enrolled js)) (indexed_enrolled (all_without_blocks js) s indexed)
+pub enrolled_as : {A E : Type 0} (r : Result A E) (js ks : List (List Touch)) → OnOk r (ks ≡ js ++ [] ∷ []) → OnErr r (ks ≡ js) → (q : ℕ) → touched_by ks q ≡ touched_by js q
+enrolled_as (Ok x) js ks ok err q = ap (λ l. touched_by l q) ok ∙ enrolled_same js q
+enrolled_as (Err e) js ks ok err q = ap (λ l. touched_by l q) err
 
 pub other_shrunk : (js ks : List (List Touch)) (s : Index) → IsIndexed (all_without_blocks js) s → 0 < length js → touched_by js (length js - 1) ≡ [] → ks ≡ take (length js - 1) js → IsIndexed (all_without_blocks ks) s
-other_shrunk js ks s indexed some untouched e = record {
-  each = λ m. indexed.each m ∙ ap (has m.touch) (touched_without js m.pid ∙ ap without_blocks (sym (shrunk_same js ks some untouched e m.pid)) ∙ sym (touched_without ks m.pid));
-  once = indexed.once;
+other_shrunk js ks s indexed some untouched e = other_same js ks s (shrunk_same js ks some untouched e) indexed
+
+-- and nobody uses anything
+pub other_none : (js : List (List Touch)) (n : Index) → ((q : ℕ) → touched_by js q ≡ []) → ((u : Touch) → users_on n u ≡ []) → IsIndexed (all_without_blocks js) n
+other_none js n empty none = record {
+  each = λ m. ap (among m.pid) (none m.touch) ∙ sym (ap (has m.touch) (touched_without js m.pid ∙ ap without_blocks (empty m.pid)));
+  once = λ t. subst AreDistinct (sym (none t)) tt;
 }
 
 pub inside_set : (js ks : List (List Touch)) (pid : ℕ) (l : List Touch) → ks ≡ set js pid l → pid < length js → pid < length ks

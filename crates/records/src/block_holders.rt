@@ -1,5 +1,5 @@
 // Who clashes with a touch of a block of a file: the users of the block.
-ghost use Rattle.std.specs.Prelude.{◌≡◌, ◌++◌, ◌&&◌, IfOk};
+ghost use Rattle.std.specs.Prelude.{◌≡◌, ◌++◌, ◌&&◌, ◌==◌, not, IfOk};
 ghost use Rattle.std.specs.Option.{option_copied};
 ghost use Rattle.records.specs.BlockMarks.{marks_on_block};
 ghost use Rattle.records.specs.Groups.{alike};
@@ -15,11 +15,13 @@ use std::alloc::AllocError;
 
 type Found = Vec<Mark, Heap>;
 
-/// Whether it is a use by reading or by writing, and has a block that is not before its row.
-fn is_user(holding: &Holding, write: bool, block: u64) -> bool
-    ensures { result ≡ (alike holding.now.write write && has_block block holding.now) }
+/// Whether it is another process's use by reading or by writing, and has a block that is not before
+/// its row.
+fn is_others(holding: &Holding, caller: Pid, write: bool, block: u64) -> bool
+    ensures { result ≡ ((alike holding.now.write write && has_block block holding.now)
+        && not (holding.now.pid == caller)) }
 {
-    holding.write == write && block <= holding.last
+    holding.write == write && block <= holding.last && holding.pid != caller
 }
 
 /// Adds the marks of those who read, or who write, a block from its row on, but the caller.
@@ -36,7 +38,7 @@ fn collect_side(
 {
     let mut found = found;
     for holding in row.holdings.as_slice() {
-        if is_user(holding, write, block) && holding.pid != caller {
+        if is_others(holding, caller, write, block) {
             found.push(mark_on(aspect, write, holding.pid)?)?;
         }
     }
@@ -53,7 +55,7 @@ pub fn collect_users(
     block: u64,
 ) -> Result<Found, AllocError>
     ensures { IfOk result (λ r. r.items ≡ marks_on_block caller touch.now.aspect touch.now.write block
-        (holdings_of (option_copied row))) }
+        (holdings_of (option_copied row.entry))) }
 {
     let found = Vec::new(heap);
     let Some(row) = row else {

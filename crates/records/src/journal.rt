@@ -44,11 +44,11 @@ impl Model for Journal {
 }
 
 /// Whether these blocks stand right behind those.
-fn stand_behind(before: Blocks, blocks: Blocks) -> bool
-    ensures some { result ≡ true → 0 < before.count }
-    ensures file { result ≡ true → before.file ≡ blocks.file }
-    ensures write { result ≡ true → before.write ≡ blocks.write }
-    ensures first { result ≡ true → before.first + before.count ≡ blocks.first }
+fn stand_behind(before: &Blocks, blocks: &Blocks) -> bool
+    ensures some { result ≡ true → 0 < before.now.count }
+    ensures file { result ≡ true → before.now.file ≡ blocks.now.file }
+    ensures write { result ≡ true → before.now.write ≡ blocks.now.write }
+    ensures first { result ≡ true → before.now.first + before.now.count ≡ blocks.now.first }
 {
     if before.count == 0 || before.file != blocks.file || before.write != blocks.write {
         return false;
@@ -57,14 +57,15 @@ fn stand_behind(before: Blocks, blocks: Blocks) -> bool
 }
 
 /// Blocks and those that stand right behind them, as one.
-fn joined(before: Blocks, blocks: Blocks) -> Option<Blocks>
+fn joined(before: &Blocks, blocks: &Blocks) -> Option<Blocks>
     ensures { IfSome result (λ both. touches_of (Touched.Blocks both)
-        ≡ touches_of (Touched.Blocks before) ++ touches_of (Touched.Blocks blocks)) }
+        ≡ touches_of (Touched.Blocks before.now) ++ touches_of (Touched.Blocks blocks.now)) }
 {
     if !stand_behind(before, blocks) {
         return None;
     }
-    let count = before.count.checked_add(blocks.count)?;
+    let own = before.count;
+    let count = own.checked_add(blocks.count)?;
     Some(Blocks {
         file: before.file,
         first: before.first,
@@ -74,43 +75,44 @@ fn joined(before: Blocks, blocks: Blocks) -> Option<Blocks>
 }
 
 /// The same of an entry, which may be no blocks.
-fn joined_to(before: &Touched, blocks: Blocks) -> Option<Blocks>
+fn joined_to(before: &Touched, blocks: &Blocks) -> Option<Blocks>
     ensures { IfSome result (λ both. touches_of (Touched.Blocks both)
-        ≡ touches_of before.now ++ touches_of (Touched.Blocks blocks)) }
+        ≡ touches_of before.now ++ touches_of (Touched.Blocks blocks.now)) }
 {
     match before {
-        Touched::Blocks(before) => joined(*before, blocks),
+        Touched::Blocks(before) => joined(before, blocks),
         Touched::One(_) => None,
     }
 }
 
 /// Whether an entry goes on by these blocks.
-fn goes_on_by(before: &Touched, blocks: Blocks) -> bool
+fn goes_on_by(before: &Touched, blocks: &Blocks) -> bool
     ensures { result ≡ true
-        → GoesOnBy (touches_of before.now) blocks.file blocks.first blocks.write }
+        → GoesOnBy (touches_of before.now) blocks.now.file blocks.now.first blocks.now.write }
 {
     match before {
-        Touched::Blocks(before) => stand_behind(*before, blocks),
+        Touched::Blocks(before) => stand_behind(before, blocks),
         Touched::One(_) => false,
     }
 }
 
 /// Whether the last entry goes on by these blocks.
-fn goes_on(entries: &[Touched], blocks: Blocks) -> bool
+fn goes_on(entries: &[Touched], blocks: &Blocks) -> bool
     ensures { result ≡ true
-        → GoesOnBy (expanded entries.now) blocks.file blocks.first blocks.write }
+        → GoesOnBy (expanded entries.now) blocks.now.file blocks.now.first blocks.now.write }
 {
     let count = entries.len();
     if count == 0 {
         return false;
     }
-    goes_on_by(&entries[count - 1], blocks)
+    let last = count - 1;
+    goes_on_by(&entries[last], blocks)
 }
 
 /// The last entry goes on by these blocks, and the answer is whether it does. It takes no memory.
-fn join_last(entries: &mut Entries, blocks: Blocks) -> bool
+fn join_last(entries: &mut Entries, blocks: &Blocks) -> bool
     ensures yes { result ≡ true → expanded entries.new.items
-        ≡ expanded entries.old.items ++ touches_of (Touched.Blocks blocks) }
+        ≡ expanded entries.old.items ++ touches_of (Touched.Blocks blocks.now) }
     ensures no { result ≡ false → entries.new.items ≡ entries.old.items }
     ensures any { HaveTouches entries.old.items → HaveTouches entries.new.items }
 {
@@ -118,12 +120,26 @@ fn join_last(entries: &mut Entries, blocks: Blocks) -> bool
     if count == 0 {
         return false;
     }
-    match joined_to(&entries[count - 1], blocks) {
+    let last = count - 1;
+    match joined_to(&entries[last], blocks) {
         Some(both) => {
-            entries[count - 1] = Touched::Blocks(both);
+            entries[last] = Touched::Blocks(both);
             true
         }
         None => false,
+    }
+}
+
+/// The same by touches, which may be no blocks.
+fn join_touched(entries: &mut Entries, touched: &Touched) -> bool
+    ensures yes { result ≡ true → expanded entries.new.items
+        ≡ expanded entries.old.items ++ touches_of touched.now }
+    ensures no { result ≡ false → entries.new.items ≡ entries.old.items }
+    ensures any { HaveTouches entries.old.items → HaveTouches entries.new.items }
+{
+    match touched {
+        Touched::Blocks(blocks) => join_last(entries, blocks),
+        Touched::One(_) => false,
     }
 }
 
@@ -136,10 +152,8 @@ fn push_entry(entries: &mut Entries, touched: Touched) -> Result<(), Touched>
     ensures any { 0 < length (touches_of touched) → HaveTouches entries.old.items
         → HaveTouches entries.new.items }
 {
-    if let Touched::Blocks(blocks) = &touched {
-        if join_last(entries, *blocks) {
-            return Ok(());
-        }
+    if join_touched(entries, &touched) {
+        return Ok(());
     }
     match entries.push(touched) {
         Ok(()) => Ok(()),
@@ -181,7 +195,8 @@ fn cut_by(touched: &Touched, most: u128) -> Option<Blocks>
 {
     match touched {
         Touched::Blocks(blocks) => {
-            if u128::from(blocks.count) > most {
+            let count = u128::from(blocks.count);
+            if count > most {
                 Some(*blocks)
             } else {
                 None
@@ -200,17 +215,21 @@ fn pop_entry(entries: &mut Entries, most: u128) -> Option<Touched>
     ensures left { HaveTouches entries.old.items → HaveTouches entries.new.items }
     ensures few { IfSome result (λ t. length (touches_of t) ≤ most) }
     ensures none { IfNone result (entries.old.items ≡ []) }
+    ensures same { IfNone result (entries.new.items ≡ entries.old.items) }
 {
     let count = entries.len();
     if count == 0 {
         return None;
     }
-    if let Some(blocks) = cut_by(&entries[count - 1], most) {
-        let (kept, gone) = cut(blocks, most as u64);
-        entries[count - 1] = Touched::Blocks(kept);
-        return Some(Touched::Blocks(gone));
+    let last = count - 1;
+    match cut_by(&entries[last], most) {
+        Some(blocks) => {
+            let (kept, gone) = cut(blocks, most as u64);
+            entries[last] = Touched::Blocks(kept);
+            Some(Touched::Blocks(gone))
+        }
+        None => entries.pop(),
     }
-    entries.pop()
 }
 
 impl Journal {
@@ -239,8 +258,9 @@ impl Journal {
     }
 
     /// Whether these blocks stand right behind those that came last.
-    pub fn goes_on(&self, blocks: Blocks) -> bool
-        ensures { result ≡ true → GoesOnBy self.now blocks.file blocks.first blocks.write }
+    pub fn goes_on(&self, blocks: &Blocks) -> bool
+        ensures { result ≡ true
+            → GoesOnBy self.now blocks.now.file blocks.now.first blocks.now.write }
     {
         goes_on(self.entries.as_slice(), blocks)
     }
@@ -255,9 +275,13 @@ impl Journal {
         ensures err { OnErr result (self.new ≡ self.old) }
     {
         let more = u128::from(touched.count());
-        push_entry(&mut self.entries, touched)?;
-        self.count += more;
-        Ok(())
+        match push_entry(&mut self.entries, touched) {
+            Ok(()) => {
+                self.count += more;
+                Ok(())
+            }
+            Err(touched) => Err(touched),
+        }
     }
 
     /// Takes the last touches away, so many at most of those that stand together. It takes no
@@ -272,7 +296,8 @@ impl Journal {
         ensures none { IfNone result (self.old ≡ []) }
     {
         let touched = pop_entry(&mut self.entries, most)?;
-        self.count -= u128::from(touched.count());
+        let less = u128::from(touched.count());
+        self.count -= less;
         Some(touched)
     }
 

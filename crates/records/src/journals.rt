@@ -152,9 +152,9 @@ impl Journals {
     }
 
     /// Whether these blocks stand right behind those that a process touched last.
-    pub fn goes_on(&self, pid: Pid, blocks: Blocks) -> bool
+    pub fn goes_on(&self, pid: Pid, blocks: &Blocks) -> bool
         ensures { result ≡ true
-            → GoesOnBy (touched_by self.now pid) blocks.file blocks.first blocks.write }
+            → GoesOnBy (touched_by self.now pid) blocks.now.file blocks.now.first blocks.now.write }
     {
         match self.list.get(pid.0 as usize) {
             Some(journal) => journal.goes_on(blocks),

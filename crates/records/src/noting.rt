@@ -1,8 +1,10 @@
 // A process's touches in its journal, with its uses in the index.
-ghost use Rattle.std.specs.Prelude.{◌≡◌, suc, ◌+◌, ◌-◌, ◌<◌, ◌≤◌, ◌++◌, false, set, length, List};
+ghost use Rattle.std.specs.Prelude.{◌≡◌, suc, ◌+◌, ◌-◌, ◌<◌, ◌≤◌, ◌++◌, ◌∷◌, [], false, cond, set, length, List};
 ghost use Rattle.std.specs.Prelude.{IfOk, OnOk, OnErr};
 ghost use Rattle.model.specs.Steps.{Touch as OfModel};
-ghost use Rattle.records.specs.Index.{IsIndexed, ListsWritten};
+ghost use Rattle.records.specs.Codes.{is_touch};
+ghost use Rattle.records.specs.Groups.{without_pid};
+ghost use Rattle.records.specs.Index.{users_on, IsIndexed, ListsWritten};
 ghost use Rattle.records.specs.Rows.{Places, places_of, uses_at, is_block_aspect, all_without_blocks};
 ghost use Rattle.records.specs.Rows.{HaveNoStart, AreRowsOf};
 ghost use Rattle.records.specs.Touches.{touched_by, with_touch, with_touches, distinct};
@@ -15,6 +17,19 @@ use heap::Heap;
 use ids::{Aspect, Num, Pid, Touch};
 use std::alloc::AllocError;
 use touches::{Blocks, Touched};
+
+/// A process does not use what a touch is of any more, which was not noted after all. It takes no
+/// memory.
+fn leave_refused(index: &mut Index, pid: Pid, refused: &Touched)
+    ensures left { (t : OfModel) → refused.now ≡ Touched.One t → (u : OfModel) → users_on index.new u
+        ≡ cond (is_touch t u) (without_pid pid (users_on index.old u)) (users_on index.old u) }
+    ensures listed { ListsWritten index.old → ListsWritten index.new }
+{
+    match refused {
+        Touched::One(touch) => leave(index, pid, touch),
+        Touched::Blocks(_) => {}
+    }
+}
 
 /// A touch more of a process that is of no block, with its use; one that it has already takes no
 /// memory. Refused memory changes nothing.
@@ -40,10 +55,8 @@ fn note_one(
     }
     match journals.push(pid, Touched::One(touch)) {
         Ok(()) => Ok(()),
-        Err(touched) => {
-            if let Touched::One(touch) = &touched {
-                leave(index, pid, touch);
-            }
+        Err(refused) => {
+            leave_refused(index, pid, &refused);
             Err(AllocError)
         }
     }
@@ -89,12 +102,13 @@ fn note_part(
         pid,
         write: blocks.write,
     };
-    let goes_on = journals.goes_on(pid, blocks);
-    enter_part(heap, rows, user, blocks.first, last, goes_on)?;
+    let goes_on = journals.goes_on(pid, &blocks);
+    enter_part(heap, rows, &user, blocks.first, last, goes_on)?;
     match journals.push(pid, Touched::Blocks(blocks)) {
         Ok(()) => Ok(()),
-        Err(_) => {
-            leave_blocks(rows, user, blocks.first, last);
+        Err(refused) => {
+            drop(refused);
+            leave_blocks(rows, &user, blocks.first, last);
             Err(AllocError)
         }
     }
@@ -128,7 +142,7 @@ fn note_first(
         write: blocks.write,
     };
     let last = blocks.first + (blocks.count - 1);
-    let part = part_at(rows, user, blocks.first, last);
+    let part = part_at(rows, &user, blocks.first, last);
     let count = part.last - blocks.first + 1;
     if part.is_used {
         return Ok(count);
@@ -161,13 +175,19 @@ fn note_blocks(
     ensures rows { AreRowsOf journals.new (places_of rows.new) }
     ensures indexed { all_without_blocks journals.new ≡ all_without_blocks journals.old }
 {
+    let Blocks {
+        file,
+        first,
+        count,
+        write,
+    } = blocks;
     let mut done = 0;
-    while done < blocks.count {
+    while done < count {
         let rest = Blocks {
-            file: blocks.file,
-            first: blocks.first + done,
-            count: blocks.count - done,
-            write: blocks.write,
+            file,
+            first: first + done,
+            count: count - done,
+            write,
         };
         done += note_first(heap, journals, rows, pid, rest)?;
     }
@@ -188,7 +208,37 @@ fn leave_run(rows: &mut Rows, pid: Pid, blocks: Blocks)
         write: blocks.write,
     };
     let last = blocks.first + (blocks.count - 1);
-    leave_blocks(rows, user, blocks.first, last);
+    leave_blocks(rows, &user, blocks.first, last);
+}
+
+/// A touch more of a process, unless it has it already, with its use; one that it has takes no
+/// memory.
+fn note_touch(
+    heap: Heap,
+    journals: &mut Journals,
+    index: &mut Index,
+    rows: &mut Rows,
+    pid: Pid,
+    touch: Touch,
+) -> Result<(), AllocError>
+    requires within { pid < length journals.old }
+    requires indexed { IsIndexed (all_without_blocks journals.old) index.old }
+    requires rows { AreRowsOf journals.old (places_of rows.old) }
+    ensures ok { OnOk result (journals.new ≡ set journals.old pid
+        (with_touches (touched_by journals.old pid) (touch ∷ []))) }
+    ensures some { (ts : List OfModel) × (journals.new ≡ set journals.old pid
+        (with_touches (touched_by journals.old pid) ts)) }
+    ensures indexed { IsIndexed (all_without_blocks journals.new) index.new }
+    ensures rows { AreRowsOf journals.new (places_of rows.new) }
+    ensures listed { ListsWritten index.old → ListsWritten index.new }
+{
+    match &touch.aspect {
+        Aspect::Block(file, block) => {
+            let blocks = only(*file, *block, touch.write);
+            note_blocks(heap, journals, rows, pid, blocks)
+        }
+        _ => note_one(heap, journals, index, pid, touch),
+    }
 }
 
 /// Touches more of a process, but those that it has already, with their uses. Refused memory may
@@ -213,17 +263,30 @@ pub fn note_touched(
     ensures listed { ListsWritten index.old → ListsWritten index.new }
 {
     match touched {
-        Touched::One(touch) => match touch.aspect {
-            Aspect::Block(file, block) => {
-                note_blocks(heap, journals, rows, pid, only(file, block, touch.write))
-            }
-            _ => note_one(heap, journals, index, pid, touch),
-        },
+        Touched::One(touch) => note_touch(heap, journals, index, rows, pid, touch),
         Touched::Blocks(blocks) => note_blocks(heap, journals, rows, pid, blocks),
     }
 }
 
-/// A process has none of these uses any more, which were its last. It takes no memory.
+/// A process does not have this touch any more, which was its last. It takes no memory.
+fn leave_touch(index: &mut Index, rows: &mut Rows, pid: Pid, touch: &Touch)
+    ensures indexed { (js : List (List OfModel)) (held : List OfModel)
+        → IsIndexed (all_without_blocks js) index.old → pid < length js
+        → distinct (touched_by js pid) ≡ touched_by js pid
+        → touched_by js pid ≡ held ++ touch.now ∷ []
+        → IsIndexed (all_without_blocks (set js pid held)) index.new }
+    ensures rows { (js : List (List OfModel)) (held : List OfModel) → AreRowsOf js (places_of rows.old)
+        → pid < length js → touched_by js pid ≡ held ++ touch.now ∷ []
+        → AreRowsOf (set js pid held) (places_of rows.new) }
+    ensures listed { ListsWritten index.old → ListsWritten index.new }
+{
+    match &touch.aspect {
+        Aspect::Block(file, block) => leave_run(rows, pid, only(*file, *block, touch.write)),
+        _ => leave(index, pid, touch),
+    }
+}
+
+/// A process has none of these touches any more, which were its last. It takes no memory.
 pub fn leave_touched(index: &mut Index, rows: &mut Rows, pid: Pid, touched: &Touched)
     requires { 0 < length (touches_of touched.now) }
     ensures indexed { (js : List (List OfModel)) (held : List OfModel)
@@ -237,10 +300,7 @@ pub fn leave_touched(index: &mut Index, rows: &mut Rows, pid: Pid, touched: &Tou
     ensures listed { ListsWritten index.old → ListsWritten index.new }
 {
     match touched {
-        Touched::One(touch) => match &touch.aspect {
-            Aspect::Block(file, block) => leave_run(rows, pid, only(*file, *block, touch.write)),
-            _ => leave(index, pid, touch),
-        },
+        Touched::One(touch) => leave_touch(index, rows, pid, touch),
         Touched::Blocks(blocks) => leave_run(rows, pid, *blocks),
     }
 }

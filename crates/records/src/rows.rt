@@ -108,12 +108,12 @@ fn end_of(rows: &Rows, file: Num, block: u64, last: u64) -> u64
 
 /// The last of the blocks that a process uses in the row of a block, where it uses this one. It
 /// takes no memory.
-fn used_to(rows: &Rows, user: User, block: u64) -> Option<u64>
+fn used_to(rows: &Rows, user: &User, block: u64) -> Option<u64>
     ensures some { IfSome result (λ last. block ≤ last) }
     ensures uses { IfSome result (λ last. (b : ℕ) → b ≤ last → uses_in
-        (row_at (places_of rows.now) user.file block) user.pid user.write b ≡ true) }
+        (row_at (places_of rows.now) user.now.file block) user.now.pid user.now.write b ≡ true) }
     ensures none { IfNone result
-        (uses_at (places_of rows.now) user.file user.pid user.write block ≡ false) }
+        (uses_at (places_of rows.now) user.now.file user.now.pid user.now.write block ≡ false) }
 {
     match row_of(rows, user.file, block) {
         Some(row) => row.last_of(user.pid, user.write, block),
@@ -122,15 +122,15 @@ fn used_to(rows: &Rows, user: User, block: u64) -> Option<u64>
 }
 
 /// What a process uses from a block on, up to a last one. It takes no memory.
-pub fn part_at(rows: &Rows, user: User, block: u64, last: u64) -> Part
+pub fn part_at(rows: &Rows, user: &User, block: u64, last: u64) -> Part
     requires { block ≤ last }
     ensures from { block ≤ result.last }
     ensures to { result.last ≤ last }
-    ensures whole { HaveNoStart (places_of rows.now) user.file (suc block) result.last }
+    ensures whole { HaveNoStart (places_of rows.now) user.now.file (suc block) result.last }
     ensures used { result.is_used ≡ true → (b : ℕ) → block ≤ b → b ≤ result.last
-        → uses_at (places_of rows.now) user.file user.pid user.write b ≡ true }
+        → uses_at (places_of rows.now) user.now.file user.now.pid user.now.write b ≡ true }
     ensures free { result.is_used ≡ false
-        → uses_at (places_of rows.now) user.file user.pid user.write block ≡ false }
+        → uses_at (places_of rows.now) user.now.file user.now.pid user.now.write block ≡ false }
 {
     let end = end_of(rows, user.file, block, last);
     match used_to(rows, user, block) {
@@ -146,10 +146,10 @@ pub fn part_at(rows: &Rows, user: User, block: u64, last: u64) -> Part
 }
 
 /// A process uses the blocks from a row's first one up to a last one. Refused memory changes nothing.
-fn put_in(rows: &mut Rows, user: User, start: u64, last: u64) -> Result<(), AllocError>
-    ensures ok { OnOk result ((hs : List Holding) → places_of rows.old user.file start ≡ Some hs
-        → Puts (places_of rows.old) (places_of rows.new) user.file start
-        (Some (with_use user.pid user.write last hs))) }
+fn put_in(rows: &mut Rows, user: &User, start: u64, last: u64) -> Result<(), AllocError>
+    ensures ok { OnOk result ((hs : List Holding) → places_of rows.old user.now.file start ≡ Some hs
+        → Puts (places_of rows.old) (places_of rows.new) user.now.file start
+        (Some (with_use user.now.pid user.now.write last hs))) }
     ensures err { OnErr result (SamePlaces (places_of rows.old) (places_of rows.new)) }
 {
     match rows.get_mut(&(user.file, start)) {
@@ -202,12 +202,12 @@ fn cut_row(rows: &mut Rows, file: Num, start: u64, block: u64)
 fn open_alone(
     heap: Heap,
     rows: &mut Rows,
-    user: User,
+    user: &User,
     first: u64,
     last: u64,
 ) -> Result<(), AllocError>
-    ensures ok { OnOk result (Opens (places_of rows.old) (places_of rows.new) user.file None first
-        user.pid user.write last) }
+    ensures ok { OnOk result (Opens (places_of rows.old) (places_of rows.new) user.now.file None first
+        user.now.pid user.now.write last) }
     ensures err { OnErr result (SamePlaces (places_of rows.old) (places_of rows.new)) }
 {
     let mut row = Row::new(heap);
@@ -220,14 +220,14 @@ fn open_alone(
 fn open_behind(
     heap: Heap,
     rows: &mut Rows,
-    user: User,
+    user: &User,
     start: u64,
     first: u64,
     last: u64,
 ) -> Result<(), AllocError>
     requires { start < first }
-    ensures ok { OnOk result (Opens (places_of rows.old) (places_of rows.new) user.file (Some start)
-        first user.pid user.write last) }
+    ensures ok { OnOk result (Opens (places_of rows.old) (places_of rows.new) user.now.file (Some start)
+        first user.now.pid user.now.write last) }
     ensures err { OnErr result (SamePlaces (places_of rows.old) (places_of rows.new)) }
 {
     let mut row = split_row(heap, rows, user.file, start, first)?;
@@ -241,20 +241,18 @@ fn open_behind(
 fn enter_behind(
     heap: Heap,
     rows: &mut Rows,
-    user: User,
+    user: &User,
     start: u64,
     first: u64,
     last: u64,
     goes_on: bool,
 ) -> Result<(), AllocError>
-    requires { IsStartOf (places_of rows.old) user.file first start }
-    ensures ok { OnOk result (IsEntered (places_of rows.old) (places_of rows.new) user.file first last
-        user.pid user.write goes_on) }
+    requires { IsStartOf (places_of rows.old) user.now.file first start }
+    ensures ok { OnOk result (IsEntered (places_of rows.old) (places_of rows.new) user.now.file first last
+        user.now.pid user.now.write goes_on) }
     ensures err { OnErr result (SamePlaces (places_of rows.old) (places_of rows.new)) }
 {
-    if goes_on {
-        put_in(rows, user, start, last)
-    } else if start == first {
+    if goes_on || start == first {
         put_in(rows, user, start, last)
     } else {
         open_behind(heap, rows, user, start, first, last)
@@ -267,13 +265,13 @@ fn enter_behind(
 pub fn enter_part(
     heap: Heap,
     rows: &mut Rows,
-    user: User,
+    user: &User,
     first: u64,
     last: u64,
     goes_on: bool,
 ) -> Result<(), AllocError>
-    ensures ok { OnOk result (IsEntered (places_of rows.old) (places_of rows.new) user.file first last
-        user.pid user.write goes_on) }
+    ensures ok { OnOk result (IsEntered (places_of rows.old) (places_of rows.new) user.now.file first last
+        user.now.pid user.now.write goes_on) }
     ensures err { OnErr result (SamePlaces (places_of rows.old) (places_of rows.new)) }
 {
     match start_of(rows, user.file, first) {
@@ -283,10 +281,10 @@ pub fn enter_part(
 }
 
 /// A process goes from a row, and the answer is whether nobody is left there. It takes no memory.
-fn leave_in(rows: &mut Rows, user: User, start: u64) -> bool
-    ensures left { Puts (places_of rows.old) (places_of rows.new) user.file start
-        (option_map (λ hs. without_use user.pid user.write hs) (places_of rows.old user.file start)) }
-    ensures nobody { result ≡ is_deserted (places_of rows.new user.file start) }
+fn leave_in(rows: &mut Rows, user: &User, start: u64) -> bool
+    ensures left { Puts (places_of rows.old) (places_of rows.new) user.now.file start
+        (option_map (λ hs. without_use user.now.pid user.now.write hs) (places_of rows.old user.now.file start)) }
+    ensures nobody { result ≡ is_deserted (places_of rows.new user.now.file start) }
 {
     match rows.get_mut(&(user.file, start)) {
         Some(row) => {
@@ -298,9 +296,9 @@ fn leave_in(rows: &mut Rows, user: User, start: u64) -> bool
 }
 
 /// A process goes from a row, which goes too where nobody is left. It takes no memory.
-fn leave_row(rows: &mut Rows, user: User, start: u64)
-    ensures { Puts (places_of rows.old) (places_of rows.new) user.file start
-        (left_of user.pid user.write (places_of rows.old user.file start)) }
+fn leave_row(rows: &mut Rows, user: &User, start: u64)
+    ensures { Puts (places_of rows.old) (places_of rows.new) user.now.file start
+        (left_of user.now.pid user.now.write (places_of rows.old user.now.file start)) }
 {
     if leave_in(rows, user, start) {
         rows.remove(&(user.file, start));
@@ -308,11 +306,11 @@ fn leave_row(rows: &mut Rows, user: User, start: u64)
 }
 
 /// A process's use in a row does not go on at a block, which is not the first. It takes no memory.
-fn end_in(rows: &mut Rows, user: User, start: u64, block: u64)
+fn end_in(rows: &mut Rows, user: &User, start: u64, block: u64)
     requires { 0 < block }
-    ensures { Puts (places_of rows.old) (places_of rows.new) user.file start
-        (option_map (λ hs. map (own_ended user.pid user.write block) hs)
-        (places_of rows.old user.file start)) }
+    ensures { Puts (places_of rows.old) (places_of rows.new) user.now.file start
+        (option_map (λ hs. map (own_ended user.now.pid user.now.write block) hs)
+        (places_of rows.old user.now.file start)) }
 {
     match rows.get_mut(&(user.file, start)) {
         Some(row) => row.end_own_before(user.pid, user.write, block),
@@ -321,8 +319,8 @@ fn end_in(rows: &mut Rows, user: User, start: u64, block: u64)
 }
 
 /// A process's use ends before a block, where it starts before it. It takes no memory.
-fn end_before(rows: &mut Rows, user: User, block: u64)
-    ensures { IsEnded (places_of rows.old) (places_of rows.new) user.file block user.pid user.write }
+fn end_before(rows: &mut Rows, user: &User, block: u64)
+    ensures { IsEnded (places_of rows.old) (places_of rows.new) user.now.file block user.now.pid user.now.write }
 {
     if block == 0 {
         return;
@@ -335,9 +333,9 @@ fn end_before(rows: &mut Rows, user: User, block: u64)
 
 /// A process goes from the rows that start in these blocks. It takes no memory, and a look-up for
 /// each row.
-fn leave_rows(rows: &mut Rows, user: User, first: u64, last: u64)
+fn leave_rows(rows: &mut Rows, user: &User, first: u64, last: u64)
     requires { first ≤ last }
-    ensures { AreOut (places_of rows.old) (places_of rows.new) user.file first last user.pid user.write }
+    ensures { AreOut (places_of rows.old) (places_of rows.new) user.now.file first last user.now.pid user.now.write }
 {
     let mut from = first;
     while let Some(start) = first_start(rows, user.file, from, last) {
@@ -351,9 +349,9 @@ fn leave_rows(rows: &mut Rows, user: User, first: u64, last: u64)
 
 /// A process does not use these blocks any more, and none behind them in a row that starts in them.
 /// It takes no memory, and a look-up for each row.
-pub fn leave_blocks(rows: &mut Rows, user: User, first: u64, last: u64)
+pub fn leave_blocks(rows: &mut Rows, user: &User, first: u64, last: u64)
     requires { first ≤ last }
-    ensures { IsLeft (places_of rows.old) (places_of rows.new) user.file first last user.pid user.write }
+    ensures { IsLeft (places_of rows.old) (places_of rows.new) user.now.file first last user.now.pid user.now.write }
 {
     end_before(rows, user, first);
     leave_rows(rows, user, first, last);

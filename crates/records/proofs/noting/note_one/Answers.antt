@@ -28,3 +28,14 @@ pub returns-in-Ok-clause-rows : goal.returns-in-Ok-clause-rows
 returns-in-Ok-clause-rows c = λ p are.
     subst (λ (x : List (List Touch)). AreRowsOf x p) (sym c.in-Ok.ensures.ok)
     (rows_other c.args.journals.now p c.args.pid c.args.touch are c.requires.within c.requires.other (other_there c.args.journals.now c.args.index.now c.args.touch c.args.pid false c.requires.other c.requires.indexed (not_true _ _ c.in_ok-enter.ensures.new c.if-not-branch.false)))
+
+pub returns-in-Err-clause-err : goal.returns-in-Err-clause-err
+returns-in-Err-clause-err c = c.in-Err.ensures.err
+
+pub returns-in-Err-clause-indexed : goal.returns-in-Err-clause-indexed
+returns-in-Err-clause-indexed c =
+    other_back c.args.journals.now c.push.new.self c.args.index.now c.enter.new.index c.leave_refused.new.index c.args.touch c.args.pid c.requires.other c.requires.within c.requires.indexed c.in-Err.ensures.err
+    (other_there c.args.journals.now c.args.index.now c.args.touch c.args.pid false c.requires.other c.requires.indexed (not_true _ _ c.in_ok-enter.ensures.new c.if-not-branch.false)) c.in_ok-enter.ensures.ok (c.leave_refused.ensures.left c.args.touch c.in-Err.ensures.back)
+
+pub returns-in-Err-clause-rows : goal.returns-in-Err-clause-rows
+returns-in-Err-clause-rows c = λ p are. subst (λ (x : List (List Touch)). AreRowsOf x p) (sym c.in-Err.ensures.err) are

@@ -14,5 +14,5 @@ returns-in-Some-clause-whole c = λ b from to. c.end_of-end.ensures.whole b from
 
 pub returns-in-Some-clause-used : goal.returns-in-Some-clause-used
 returns-in-Some-clause-used c = λ used b from to.
-    used_along (places_of c.args.rows.now) c.args.user.file c.args.user.pid c.args.block b c.args.user.write from
+    used_along (places_of c.args.rows.now) c.args.user.now.file c.args.user.now.pid c.args.block b c.args.user.now.write from
     (λ y a z. c.end_of-end.ensures.whole y a (omega arith)) (c.in-Some.ensures.uses b (omega arith))

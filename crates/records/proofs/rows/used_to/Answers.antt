@@ -6,11 +6,11 @@ use Rattle.records.proofs.rows.used_to.Goals as goal
 
 pub returns-in-Some-clause-uses : goal.returns-in-Some-clause-uses
 returns-in-Some-clause-uses c =
-    some_uses (row_at (places_of c.args.rows.now) c.args.user.file c.args.block) c.in-Some.row.now.holdings.items c.args.user.pid c.args.user.write c.last_of.result (sym c.in-Some.ensures) c.last_of.ensures.uses
+    some_uses (row_at (places_of c.args.rows.now) c.args.user.now.file c.args.block) c.in-Some.row.now.holdings.items c.args.user.now.pid c.args.user.now.write c.last_of.result (sym c.in-Some.ensures) c.last_of.ensures.uses
 
 pub returns-in-Some-clause-none : goal.returns-in-Some-clause-none
 returns-in-Some-clause-none c =
-    none_uses (row_at (places_of c.args.rows.now) c.args.user.file c.args.block) c.in-Some.row.now.holdings.items c.args.user.pid c.args.block c.args.user.write c.last_of.result (sym c.in-Some.ensures) c.last_of.ensures.none
+    none_uses (row_at (places_of c.args.rows.now) c.args.user.now.file c.args.block) c.in-Some.row.now.holdings.items c.args.user.now.pid c.args.block c.args.user.now.write c.last_of.result (sym c.in-Some.ensures) c.last_of.ensures.none
 
 pub returns-in-None-clause-none : goal.returns-in-None-clause-none
-returns-in-None-clause-none c = ap (λ (o : Option (List Holding)). uses_in o c.args.user.pid c.args.user.write c.args.block) (sym c.in-None.ensures)
+returns-in-None-clause-none c = ap (λ (o : Option (List Holding)). uses_in o c.args.user.now.pid c.args.user.now.write c.args.block) (sym c.in-None.ensures)

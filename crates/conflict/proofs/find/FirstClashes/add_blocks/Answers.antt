@@ -6,8 +6,8 @@ use Rattle.conflict.proofs.Firsts.{firsts_none}
 use Rattle.conflict.proofs.Runs.{row_more}
 use Rattle.conflict.proofs.find.FirstClashes.add_blocks.Goals as goal
 
-pub returns-then-blocks-eq0 : goal.returns-then-blocks-eq0
-returns-then-blocks-eq0 c =
+pub returns-then-count-eq0 : goal.returns-then-count-eq0
+returns-then-count-eq0 c =
     let e : c.args.blocks.count ≡ 0 = omega arith in
     ([], subst (λ n. AreClashes c.args.records.now c.args.caller (touches_of_blocks c.args.blocks.file c.args.blocks.first n c.args.blocks.write) []) (sym e) refl, firsts_none c.args.self.now)
 

@@ -8,10 +8,10 @@ use Rattle.conflict.proofs.find.FirstClashes.add_blocks.Given as goal
 -- the blocks before this one are done
 abbrev pub invariant-rows : goal.invariant-rows
 invariant-rows l = record {
-  from : l.blocks.first ≤ l.block;
+  from : l.first ≤ l.block;
   to : l.block ≤ l.last;
   done : (own : List Clash)
-      × AreClashes l.records l.caller (touches_of_blocks l.blocks.file l.blocks.first (l.block - l.blocks.first) l.blocks.write) own
+      × AreClashes l.records l.caller (touches_of_blocks l.file l.first (l.block - l.first) l.write) own
       × AreFirstsOf (l.initial.self ++ own) l.self;
 }
 

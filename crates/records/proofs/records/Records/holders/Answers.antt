@@ -15,8 +15,8 @@ pub returns-in-Block : goal.returns-in-Block
 returns-in-Block c =
     let js = c.self.inside.journals in
     let w = c.args.touch.now.write in
-    let f = c.in-Block.file.now in
-    let b = c.in-Block.block.now in
+    let f = c.in-Block.file in
+    let b = c.in-Block.block in
     let row = holdings_of (option_copied c.row_of-row.result) in
     let same : c.args.touch.now.aspect ≡ Block f b = c.in-Block.is in
     rw (← c.self.view_is) (IfOk-weaker c.collect_users.result (λ found. found.items ≡ marks_on_block c.args.caller c.args.touch.now.aspect w b row) (λ found. AreHolders js c.args.caller c.args.touch.now found.items)
