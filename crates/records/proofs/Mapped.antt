@@ -116,16 +116,18 @@ pub row_gone : (p k n : Places) (f s pid : ℕ) (v : Bool) → Puts p k f s (opt
 row_gone p k n f s pid v puts nobody gone =
     subst (λ o. Puts p n f s o) (sym (left_none pid v (p f s) (sym (ap is_deserted (put_at p k f s (option_map (λ hs. without_use pid v hs) (p f s)) puts)) ∙ nobody)))
     (λ g b. gone g b ∙ by g b ((g == f) && (b == s)) refl) where
-  by : (g b : ℕ) (t : Bool) → ((g == f) && (b == s)) ≡ t → (if t then None else k g b) ≡ (if t then None else p g b)
-  by g b true e = refl
-  by g b false e = puts g b ∙ ap (λ t. if t then option_map (λ hs. without_use pid v hs) (p f s) else p g b) e
+      by : (g b : ℕ) (t : Bool) → ((g == f) && (b == s)) ≡ t → (if t then None else k g b) ≡ (if t then None else p g b)
+      by g b true e = refl
+      by g b false e = puts g b ∙ ap (λ t. if t then option_map (λ hs. without_use pid v hs) (p f s) else p g b) e
 
 -- A row opens behind one that is cut.
 pub opened_behind : (p k n : Places) (f s first pid last : ℕ) (v : Bool) (row : List Holding) → s < first → ((hs : List Holding) → p f s ≡ Some hs → row ≡ with_use pid v last (filter (has_block first) hs))
     → Puts p k f first (Some row) → Puts k n f s (option_map (λ hs. map (ended first) hs) (k f s)) → Opens p n f (Some s) first pid v last
-opened_behind p k n f s first pid last v row lt is puts cut hs there =
-    (k, subst (λ l. Puts p k f first (Some l)) (is hs there) puts,
-    put_there k n f s (λ hs. map (ended first) hs) cut hs (put_off p k f first (Some row) puts s (λ e. absurd (omega arith)) ∙ there))
+opened_behind p k n f s first pid last v row lt is puts cut hs there = (
+  k,
+  subst (λ l. Puts p k f first (Some l)) (is hs there) puts,
+  put_there k n f s (λ hs. map (ended first) hs) cut hs (put_off p k f first (Some row) puts s (λ e. absurd (omega arith)) ∙ there),
+)
 
 -- the row of a block is the last one of a range
 pub last_row : (rows : RowMap) (f b : ℕ) (e : (ℕ × ℕ) × Row) (t r : List ((ℕ × ℕ) × Row)) → IsRangeOf place_cmp (Included (f, 0)) (Included (f, b)) rows r → r ≡ t ++ e ∷ [] → Some e.1.holdings.items ≡ row_at (places_of rows) f b

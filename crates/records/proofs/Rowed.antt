@@ -87,6 +87,6 @@ users_uses q b w (h ∷ hs) =
     among_if q (alike h.write w && has_block b h) h.pid (users_of w b hs)
     ∙ ap (λ r. if alike h.write w && has_block b h then ((h.pid == q) || r) else r) (users_uses q b w hs)
     ∙ or_first (h.pid == q) (alike h.write w) (has_block b h) (uses q w b hs) where
-  among_if : (q : ℕ) (k : Bool) (p : ℕ) (ps : List ℕ) → among q (if k then p ∷ ps else ps) ≡ (if k then ((p == q) || among q ps) else among q ps)
-  among_if q true p ps = refl
-  among_if q false p ps = refl
+      among_if : (q : ℕ) (k : Bool) (p : ℕ) (ps : List ℕ) → among q (if k then p ∷ ps else ps) ≡ (if k then ((p == q) || among q ps) else among q ps)
+      among_if q true p ps = refl
+      among_if q false p ps = refl

@@ -52,8 +52,8 @@ pub ended_single : (c : ℕ) (hs : List Holding) → IsSingle hs → IsSingle (m
 ended_single c [] single = tt
 ended_single c (h ∷ hs) single = (
   ap (λ q. list_any (is_own q (ended c h).write) (map (ended c) hs)) (ended_pid c h)
-  ∙ ap (λ w. list_any (is_own h.pid w) (map (ended c) hs)) (ended_write c h)
-  ∙ any_ended c h.pid h.write hs ∙ single.0,
+      ∙ ap (λ w. list_any (is_own h.pid w) (map (ended c) hs)) (ended_write c h)
+      ∙ any_ended c h.pid h.write hs ∙ single.0,
   ended_single c hs single.1,
 )
 

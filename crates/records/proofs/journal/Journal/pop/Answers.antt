@@ -23,10 +23,11 @@ invariant_of-self-2 c =
     let ys = c.pop_entry.new.entries.items in
     let t = c.in_ok-touched.touched in
     let less : c.from-less.result ≡ length (touches_of c.in_ok-touched.touched) = omega arith in
-    let once : distinct (expanded ys ++ touches_of t) ≡ expanded ys ++ touches_of t = ap distinct (sym c.in_ok-touched.ensures.some) ∙ c.self.invariant.0 ∙ c.in_ok-touched.ensures.some in
-    ((once_before (expanded ys) (touches_of t) once).0,
-    uncounted xs ys t c.self.inside.count c.from-less.result c.in_ok-touched.ensures.some c.self.invariant.1 less,
-    c.pop_entry.ensures.left c.self.invariant.2)
+    let once : distinct (expanded ys ++ touches_of t) ≡ expanded ys ++ touches_of t = ap distinct (sym c.in_ok-touched.ensures.some) ∙ c.self.invariant.0 ∙ c.in_ok-touched.ensures.some in (
+      (once_before (expanded ys) (touches_of t) once).0,
+      uncounted xs ys t c.self.inside.count c.from-less.result c.in_ok-touched.ensures.some c.self.invariant.1 less,
+      c.pop_entry.ensures.left c.self.invariant.2,
+    )
 
 pub returns-clause-some : goal.returns-clause-some
 returns-clause-some c = sym c.self.view_is ∙ c.in_ok-touched.ensures.some
