@@ -86,9 +86,9 @@ active_few (l ∷ lists) =
     let one : one_if l ≤ 1 = at_most l in
     let n : length (l ∷ lists) ≡ length lists + 1 = omega arith in
     omega arith where
-  at_most : (ts : List Touch) → one_if ts ≤ 1
-  at_most [] = omega arith
-  at_most (t ∷ ts) = omega arith
+      at_most : (ts : List Touch) → one_if ts ≤ 1
+      at_most [] = omega arith
+      at_most (t ∷ ts) = omega arith
 
 -- whether there is none, and whether there is one
 pub none_or_one : (ts : List Touch) (n own : ℕ) → n ≡ length ts → own ≡ from_bool (n == 0) → own + one_if ts ≡ 1

@@ -1,7 +1,7 @@
 -- The rows and the journals, as a process has entered blocks at the end of its journal.
-use Rattle.std.proofs.Common.{◌≡◌, ◌∙◌, sym, refl, ap, subst, ℕ, suc, ◌+◌, ◌-◌, ◌<◌, ◌≤◌, ◌⊎◌, inl, inr, Bool, true, false, ◌&&◌, ◌||◌, ◌==◌, Option, Some, None, List, [], ◌∷◌, ◌++◌, map, filter, if◌then◌else◌, arith}
+use Rattle.std.proofs.Common.{◌≡◌, ◌∙◌, sym, refl, ap, ℕ, suc, ◌<◌, ◌≤◌, ◌⊎◌, inl, inr, Bool, true, false, ◌&&◌, ◌||◌, ◌==◌, Option, Some, None, List, [], map, filter, if◌then◌else◌, arith}
 use Rattle.std.specs.Prelude.{nat_le}
-use Rattle.std.proofs.lemmas.Bool.{false≢true, and_parts, eqb-true, eq-eqb, ne_eqb}
+use Rattle.std.proofs.lemmas.Bool.{and_parts, eqb-true, ne_eqb}
 use Rattle.std.proofs.lemmas.Bool.Decides.{nat_tests}
 use Rattle.model.specs.Aspects.{Block}
 use Rattle.model.specs.Steps.{Touch}
@@ -10,7 +10,7 @@ use Rattle.touches.proofs.Runs.{block_touch}
 use Rattle.records.specs.declared.row.Holding.{Holding}
 use Rattle.records.specs.Runs.{GoesOnBy}
 use Rattle.records.specs.Touches.{touched_by}
-use Rattle.records.specs.Rows.{Places, row_at, has_block, uses, uses_in, uses_at, ended, with_use, IsStartOf, IsRowOf, HaveNoStart, is_user, is_within, IsSingle, Puts, Opens, IsEntered, Enters, AreRowsOf}
+use Rattle.records.specs.Rows.{Places, row_at, has_block, uses, uses_in, uses_at, ended, with_use, IsStartOf, IsRowOf, HaveNoStart, is_user, is_within, Puts, Opens, IsEntered, Enters, AreRowsOf}
 use Rattle.records.proofs.Entering.{put_at, enters_row, copied, cut_off, opened}
 use Rattle.records.proofs.Rowed.{row_along, row_from_start, row_of_start, row_none, uses_less}
 use Rattle.records.proofs.Structure.{filter_single}
@@ -67,9 +67,9 @@ module _ (lists : List (List Touch)) (p n : Places) (f first last pid : ℕ) (v 
         | inr going ↦ used_last s b hs start is going from to
       ])
       (sym (ap (λ o. uses_in o pid v first) (row_of_start p f first s start ∙ is)) ∙ free) where
-    none : (y : ℕ) → suc s ≤ y → y ≤ last → (t : Bool) → nat_le y first ≡ t → p f y ≡ None
-    none y a b true e = let to : y ≤ first = grind (arith, nat_tests) in start.none y a to
-    none y a b false e = let from : suc first ≤ y = grind (arith, nat_tests) in whole y from b
+        none : (y : ℕ) → suc s ≤ y → y ≤ last → (t : Bool) → nat_le y first ≡ t → p f y ≡ None
+        none y a b true e = let to : y ≤ first = grind (arith, nat_tests) in start.none y a to
+        none y a b false e = let from : suc first ≤ y = grind (arith, nat_tests) in whole y from b
 
   -- a row opens behind none
   open_uses : HaveNoStart p f 0 first → Puts p n f first (Some (with_use pid v last [])) → Enters p n f first last pid v
@@ -78,11 +78,11 @@ module _ (lists : List (List Touch)) (p n : Places) (f first last pid : ℕ) (v 
       (put_at p (put p f first []) f first (Some []) (puts_itself p f first [])) tt
       (λ y a c. other y (omega arith) ∙ whole y a c) (omega arith) le (λ b from to. absurd (omega arith)) refl g b q w
       ∙ ap (λ u. (is_user pid v q w && is_within f first last g b) || u) (opened p (put p f first []) f first (puts_itself p f first []) (row_none p f first empty) g b q w) where
-    other : (y : ℕ) → first < y → put p f first [] f y ≡ p f y
-    other y lt = ap (λ t. if t then Some [] else p f y) (ap (λ t. (f == f) && t) (ne_eqb y first (λ e. absurd (omega arith))) ∙ none_right (f == f)) where
-      none_right : (a : Bool) → (a && false) ≡ false
-      none_right true = refl
-      none_right false = refl
+        other : (y : ℕ) → first < y → put p f first [] f y ≡ p f y
+        other y lt = ap (λ t. if t then Some [] else p f y) (ap (λ t. (f == f) && t) (ne_eqb y first (λ e. absurd (omega arith))) ∙ none_right (f == f)) where
+          none_right : (a : Bool) → (a && false) ≡ false
+          none_right true = refl
+          none_right false = refl
 
   -- a row opens behind one, which is split
   commute : {A : Type 0} (a b : Bool) (e w r x : A) → (a ≡ true → b ≡ true → ⊥) → (if a then e else (if b then w else x)) ≡ (if b then w else (if a then e else (if b then r else x)))
@@ -97,57 +97,57 @@ module _ (lists : List (List Touch)) (p n : Places) (f first last pid : ℕ) (v 
       enters_row two n f first first last pid v rest puts there (filter_single (has_block first) hs (are.single f s hs is))
       (λ y a c. off y (omega arith) (omega arith) ∙ whole y a c) (omega arith) le (λ c from to. absurd (omega arith)) unused g b q w
       ∙ ap (λ u. (is_user pid v q w && is_within f first last g b) || u) (same g b q w) where
-    rest : List Holding
-    rest = filter (has_block first) hs
+        rest : List Holding
+        rest = filter (has_block first) hs
 
-    one : Places
-    one = put p f first rest
+        one : Places
+        one = put p f first rest
 
-    two : Places
-    two = put one f s (map (ended first) hs)
+        two : Places
+        two = put one f s (map (ended first) hs)
 
-    never : (g y : ℕ) → ((g == f) && (y == s)) ≡ true → ((g == f) && (y == first)) ≡ true → ⊥
-    never g y a c =
-        let at : y ≡ s = eqb-true y s (and_parts (g == f) (y == s) a).1 in
-        let also : y ≡ first = eqb-true y first (and_parts (g == f) (y == first) c).1 in
-        omega arith
+        never : (g y : ℕ) → ((g == f) && (y == s)) ≡ true → ((g == f) && (y == first)) ≡ true → ⊥
+        never g y a c =
+            let at : y ≡ s = eqb-true y s (and_parts (g == f) (y == s) a).1 in
+            let also : y ≡ first = eqb-true y first (and_parts (g == f) (y == first) c).1 in
+            omega arith
 
-    puts : Puts two n f first (Some (with_use pid v last rest))
-    puts g y =
-        ends g y
-        ∙ ap (λ o. if (g == f) && (y == s) then Some (map (ended first) hs) else o) (opens g y)
-        ∙ commute ((g == f) && (y == s)) ((g == f) && (y == first)) (Some (map (ended first) hs)) (Some (with_use pid v last rest)) (Some rest) (p g y) (never g y)
+        puts : Puts two n f first (Some (with_use pid v last rest))
+        puts g y =
+            ends g y
+            ∙ ap (λ o. if (g == f) && (y == s) then Some (map (ended first) hs) else o) (opens g y)
+            ∙ commute ((g == f) && (y == s)) ((g == f) && (y == first)) (Some (map (ended first) hs)) (Some (with_use pid v last rest)) (Some rest) (p g y) (never g y)
 
-    none_right : (a : Bool) → (a && false) ≡ false
-    none_right true = refl
-    none_right false = refl
+        none_right : (a : Bool) → (a && false) ≡ false
+        none_right true = refl
+        none_right false = refl
 
-    apart_from : (y z : ℕ) → (y ≡ z → ⊥) → ((f == f) && (y == z)) ≡ false
-    apart_from y z ne = ap (λ t. (f == f) && t) (ne_eqb y z ne) ∙ none_right (f == f)
+        apart_from : (y z : ℕ) → (y ≡ z → ⊥) → ((f == f) && (y == z)) ≡ false
+        apart_from y z ne = ap (λ t. (f == f) && t) (ne_eqb y z ne) ∙ none_right (f == f)
 
-    off : (y : ℕ) → s < y → first < y → two f y ≡ p f y
-    off y a c =
-        ap (λ t. if t then Some (map (ended first) hs) else one f y) (apart_from y s (λ e. absurd (omega arith)))
-        ∙ ap (λ t. if t then Some rest else p f y) (apart_from y first (λ e. absurd (omega arith)))
+        off : (y : ℕ) → s < y → first < y → two f y ≡ p f y
+        off y a c =
+            ap (λ t. if t then Some (map (ended first) hs) else one f y) (apart_from y s (λ e. absurd (omega arith)))
+            ∙ ap (λ t. if t then Some rest else p f y) (apart_from y first (λ e. absurd (omega arith)))
 
-    there : two f first ≡ Some rest
-    there =
-        ap (λ t. if t then Some (map (ended first) hs) else one f first) (apart_from first s (λ e. absurd (omega arith)))
-        ∙ put_at p one f first (Some rest) (puts_itself p f first rest)
+        there : two f first ≡ Some rest
+        there =
+            ap (λ t. if t then Some (map (ended first) hs) else one f first) (apart_from first s (λ e. absurd (omega arith)))
+            ∙ put_at p one f first (Some rest) (puts_itself p f first rest)
 
-    old_there : one f s ≡ Some hs
-    old_there = ap (λ t. if t then Some rest else p f s) (apart_from s first (λ e. absurd (omega arith))) ∙ is
+        old_there : one f s ≡ Some hs
+        old_there = ap (λ t. if t then Some rest else p f s) (apart_from s first (λ e. absurd (omega arith))) ∙ is
 
-    row : row_at p f first ≡ Some hs
-    row = row_of_start p f first s start ∙ is
+        row : row_at p f first ≡ Some hs
+        row = row_of_start p f first s start ∙ is
 
-    unused : uses pid v first rest ≡ false
-    unused = from_uses first pid first v hs (omega arith) ∙ sym (ap (λ o. uses_in o pid v first) row) ∙ free
+        unused : uses pid v first rest ≡ false
+        unused = from_uses first pid first v hs (omega arith) ∙ sym (ap (λ o. uses_in o pid v first) row) ∙ free
 
-    same : (g b q : ℕ) (w : Bool) → uses_at two g q w b ≡ uses_at p g q w b
-    same g b q w =
-        cut_off one two f s first hs rest (omega arith) lt (put_at p one f first (Some rest) (puts_itself p f first rest)) old_there (puts_itself one f s (map (ended first) hs)) g b q w
-        ∙ copied p one f s first hs (puts_itself p f first rest) row g b q w
+        same : (g b q : ℕ) (w : Bool) → uses_at two g q w b ≡ uses_at p g q w b
+        same g b q w =
+            cut_off one two f s first hs rest (omega arith) lt (put_at p one f first (Some rest) (puts_itself p f first rest)) old_there (puts_itself one f s (map (ended first) hs)) g b q w
+            ∙ copied p one f s first hs (puts_itself p f first rest) row g b q w
 
   -- So a process has entered the blocks.
   pub entered_uses : IsEntered p n f first last pid v goes → Enters p n f first last pid v

@@ -1,5 +1,5 @@
 -- Who uses which block, as a process enters the blocks of a row, and as a row is split.
-use Rattle.std.proofs.Common.{◌≡◌, ◌∙◌, sym, refl, ap, subst, ℕ, zero, suc, ◌+◌, ◌-◌, ◌<◌, ◌≤◌, ◌⊎◌, inl, inr, Bool, true, false, not, ◌&&◌, ◌||◌, ◌==◌, Option, Some, None, List, [], ◌∷◌, map, filter, if◌then◌else◌, arith}
+use Rattle.std.proofs.Common.{◌≡◌, ◌∙◌, sym, refl, ap, subst, ℕ, zero, suc, ◌+◌, ◌-◌, ◌<◌, ◌≤◌, ◌⊎◌, inl, inr, Bool, true, false, ◌&&◌, ◌||◌, ◌==◌, Option, Some, None, List, [], map, filter, if◌then◌else◌, arith}
 use Rattle.std.specs.Prelude.{nat_le}
 use Rattle.std.specs.Option.{option_or}
 use Rattle.std.proofs.lemmas.Bool.{false≢true, cases_eq, eq-eqb, ne_eqb, and_parts, eqb-true}
@@ -7,7 +7,7 @@ use Rattle.std.proofs.lemmas.Bool.Decides.{nat_tests}
 use Rattle.records.specs.Groups.{alike}
 use Rattle.records.specs.declared.row.Holding.{Holding}
 use Rattle.records.specs.Rows.{Places, row_at, has_block, uses, uses_in, uses_at, ended, with_use, is_user, is_within, IsSingle, Puts, Enters, HaveNoStart}
-use Rattle.records.proofs.Rowed.{row_before, uses_less}
+use Rattle.records.proofs.Rowed.{uses_less}
 use Rattle.records.proofs.Using.{with_other, with_own, from_uses, ended_uses}
 
 -- what a change of one row leaves
@@ -144,9 +144,9 @@ module _ (p n : Places) (f s first last pid : ℕ) (v : Bool) (hs : List Holding
         let lt : b < first = grind (arith, nat_tests) in
         let le_last : nat_le b last ≡ true = grind (arith, nat_tests) in
         le_last ∙ sym (ap (λ u. (nat_le first b && nat_le b last) || u) (before b le lt) ∙ or_true (nat_le first b && nat_le b last)) where
-      or_true : (x : Bool) → (x || true) ≡ true
-      or_true true = refl
-      or_true false = refl
+          or_true : (x : Bool) → (x || true) ≡ true
+          or_true true = refl
+          or_true false = refl
 
     by_place : (t : Bool) → nat_le first b ≡ t → nat_le b last ≡ ((nat_le first b && nat_le b last) || uses pid v b hs)
     by_place true e = behind e
@@ -194,9 +194,9 @@ module _ (p n : Places) (f s first last pid : ℕ) (v : Bool) (hs : List Holding
               ap (λ o. uses_in o q w b) there.0
               ∙ sym (ap (λ x. x || uses_at p f q w b) (out (is_user pid v q w) (nat_le first b && nat_le b last) (and_none (nat_le first b) (nat_le b last) off)))
         ] where
-      and_none : (a x : Bool) → x ≡ false → (a && x) ≡ false
-      and_none true x h = h
-      and_none false x h = refl
+          and_none : (a x : Bool) → x ≡ false → (a && x) ≡ false
+          and_none true x h = h
+          and_none false x h = refl
 
     by_place : (t : Bool) → nat_le s b ≡ t → uses_at n f q w b ≡ ((is_user pid v q w && (nat_le first b && nat_le b last)) || uses_at p f q w b)
     by_place true e = let le : s ≤ b = grind (arith, nat_tests) in on le

@@ -1,5 +1,5 @@
 -- The rows and the journals are as they should be, as a process leaves blocks that it touched last.
-use Rattle.std.proofs.Common.{◌≡◌, ◌∙◌, sym, refl, ap, subst, ℕ, zero, suc, ◌+◌, ◌-◌, ◌<◌, ◌≤◌, ◌⊎◌, inl, inr, Bool, true, false, not, ◌&&◌, ◌||◌, ◌==◌, Option, Some, None, List, [], ◌∷◌, ◌++◌, length, set, map, filter, if◌then◌else◌, append_assoc, arith}
+use Rattle.std.proofs.Common.{◌≡◌, ◌∙◌, sym, refl, ap, subst, ℕ, suc, ◌+◌, ◌-◌, ◌<◌, ◌≤◌, ◌⊎◌, inl, inr, Bool, true, false, not, ◌&&◌, ◌||◌, ◌==◌, Option, Some, None, List, [], ◌∷◌, ◌++◌, length, set, map, if◌then◌else◌, append_assoc, arith}
 use Rattle.std.specs.Prelude.{nat_le, nat_lt}
 use Rattle.std.specs.Option.{option_map}
 use Rattle.std.specs.List.{AllByRecursion, list_any}
@@ -23,7 +23,7 @@ use Rattle.records.proofs.Leaving.{AreLeft, row_start, leaves_rows}
 use Rattle.records.proofs.Shaped.{all_passed}
 use Rattle.records.proofs.Structure.{all_map, all_to, all_filter, filter_single, ended_less}
 use Rattle.records.proofs.Suffix.{once_before}
-use Rattle.records.proofs.Together.{StandTogether, stand_in_part, stand_before, nothing_behind, has_inside}
+use Rattle.records.proofs.Together.{StandTogether, stand_in_part, stand_before, nothing_behind}
 use Rattle.records.proofs.Using.{alike_is, own_as_ended}
 
 -- a holding of a process that has a block
@@ -47,7 +47,7 @@ ends_there ts held f first last x l v once is le from lt stand =
     let k : first + (last - first) ≡ last = omega arith in
     let front : List Touch = touches_of_blocks f first (last - first) v in
     let ending : ts ≡ (held ++ front) ++ block_touch f last v ∷ [] =
-        is ∙ ap (λ m. held ++ touches_of_blocks f first m v) n ∙ ap (λ l. held ++ l) (sym (blocks_more f first (last - first) v)) ∙ ap (λ b. held ++ (front ++ block_touch f b v ∷ [])) k ∙ sym (append_assoc held front (block_touch f last v ∷ [])) in
+    is ∙ ap (λ m. held ++ touches_of_blocks f first m v) n ∙ ap (λ l. held ++ l) (sym (blocks_more f first (last - first) v)) ∙ ap (λ b. held ++ (front ++ block_touch f b v ∷ [])) k ∙ sym (append_assoc held front (block_touch f last v ∷ [])) in
     let none : block_touch f (suc last) v ∷ here.1 ≡ [] = nothing_behind ts here.0 (block_touch f (suc last) v ∷ here.1) (held ++ front) (block_touch f last v) once here.2 ending in
     cc
 
@@ -61,23 +61,23 @@ fresh_blocks held f a n b w once from to =
     let front : List Touch = held ++ touches_of_blocks f a j w in
     let tail : List Touch = touches_of_blocks f (a + suc j) k w in
     let is : held ++ touches_of_blocks f a n w ≡ (front ++ block_touch f b w ∷ []) ++ tail =
-        ap (λ m. held ++ touches_of_blocks f a m w) (sym e)
-        ∙ ap (λ l. held ++ l) (sym (blocks_append f a (suc j) k w))
-        ∙ ap (λ l. held ++ (l ++ tail)) (sym (blocks_more f a j w))
-        ∙ ap (λ c. held ++ ((touches_of_blocks f a j w ++ block_touch f c w ∷ []) ++ tail)) at
-        ∙ regroup (touches_of_blocks f a j w) (block_touch f b w) tail in
+    ap (λ m. held ++ touches_of_blocks f a m w) (sym e)
+    ∙ ap (λ l. held ++ l) (sym (blocks_append f a (suc j) k w))
+    ∙ ap (λ l. held ++ (l ++ tail)) (sym (blocks_more f a j w))
+    ∙ ap (λ c. held ++ ((touches_of_blocks f a j w ++ block_touch f c w ∷ []) ++ tail)) at
+    ∙ regroup (touches_of_blocks f a j w) (block_touch f b w) tail in
     let apart = once_before (front ++ block_touch f b w ∷ []) tail (ap distinct (sym is) ∙ once ∙ is) in
     let new = once_popped front (front ++ block_touch f b w ∷ []) (block_touch f b w) refl apart.0 in
     lefts held (touches_of_blocks f a j w) new.1 where
-  regroup : (xs : List Touch) (t : Touch) (ys : List Touch) → held ++ ((xs ++ t ∷ []) ++ ys) ≡ ((held ++ xs) ++ t ∷ []) ++ ys
-  regroup xs t ys = sym (append_assoc held (xs ++ t ∷ []) ys) ∙ ap (λ l. l ++ ys) (sym (append_assoc held xs (t ∷ [])))
+      regroup : (xs : List Touch) (t : Touch) (ys : List Touch) → held ++ ((xs ++ t ∷ []) ++ ys) ≡ ((held ++ xs) ++ t ∷ []) ++ ys
+      regroup xs t ys = sym (append_assoc held (xs ++ t ∷ []) ys) ∙ ap (λ l. l ++ ys) (sym (append_assoc held xs (t ∷ [])))
 
-  or_left : (x y : Bool) → (x || y) ≡ false → x ≡ false
-  or_left false y e = refl
-  or_left true y e = cc
+      or_left : (x y : Bool) → (x || y) ≡ false → x ≡ false
+      or_left false y e = refl
+      or_left true y e = cc
 
-  lefts : (xs ys : List Touch) → has_touch (Block f b) w (xs ++ ys) ≡ false → has_touch (Block f b) w xs ≡ false
-  lefts xs ys none = or_left (has_touch (Block f b) w xs) (has_touch (Block f b) w ys) (sym (has_append f b w xs ys) ∙ none)
+      lefts : (xs ys : List Touch) → has_touch (Block f b) w (xs ++ ys) ≡ false → has_touch (Block f b) w xs ≡ false
+      lefts xs ys none = or_left (has_touch (Block f b) w xs) (has_touch (Block f b) w ys) (sym (has_append f b w xs ys) ∙ none)
 
 past : (c y : ℕ) (h : Holding) → y ≤ c → h.last < y → has_block c h ≡ false
 past c y h le lt = grind (arith, nat_tests)
@@ -196,8 +196,8 @@ own_single : (c p : ℕ) (v : Bool) (hs : List Holding) → IsSingle hs → IsSi
 own_single c p v [] single = tt
 own_single c p v (h ∷ hs) single = (
   ap (λ q. list_any (is_own q (own_ended p v c h).write) (map (own_ended p v c) hs)) (own_pid c p v h)
-  ∙ ap (λ w. list_any (is_own h.pid w) (map (own_ended p v c) hs)) (own_write c p v h)
-  ∙ own_any c p h.pid v h.write hs ∙ single.0,
+      ∙ ap (λ w. list_any (is_own h.pid w) (map (own_ended p v c) hs)) (own_write c p v h)
+      ∙ own_any c p h.pid v h.write hs ∙ single.0,
   own_single c p v hs single.1,
 )
 
@@ -354,15 +354,18 @@ module _ (lists : List (List Touch)) (p n : Places) (f first last pid : ℕ) (v 
   Stands g x h = (x ≤ h.last) × StandsIn (touched_by now h.pid) g x h
 
   stays : (g x : ℕ) (h : Holding) → x ≤ h.last → StandsIn (touched_by lists h.pid) g x h → (h.pid ≡ pid → has_touch (Block g h.last) h.write gone ≡ false) → Stands g x h
-  stays g x h from stand out = (from, elim (cases_eq h.pid pid) [
-    | inl e ↦ own e
-    | inr ne ↦ subst (λ t. StandTogether t g x ((h.last + 1) - x) h.write) (sym (get_or-set_other lists pid h.pid held [] ne)) stand
-  ]) where
+  stays g x h from stand out = (
+    from,
+    elim (cases_eq h.pid pid) [
+      | inl e ↦ own e
+      | inr ne ↦ subst (λ t. StandTogether t g x ((h.last + 1) - x) h.write) (sym (get_or-set_other lists pid h.pid held [] ne)) stand
+    ],
+  ) where
     own : h.pid ≡ pid → StandsIn (touched_by now h.pid) g x h
     own e =
         let at : x + (h.last - x) ≡ h.last = omega arith in
         let was : StandTogether (held ++ gone) g x (suc (h.last - x)) h.write =
-            as_more (held ++ gone) g x h.last h.write from (subst (λ t. StandTogether t g x ((h.last + 1) - x) h.write) (ap (touched_by lists) e ∙ is) stand) in
+        as_more (held ++ gone) g x h.last h.write from (subst (λ t. StandTogether t g x ((h.last + 1) - x) h.write) (ap (touched_by lists) e ∙ is) stand) in
         subst (λ t. StandTogether t g x ((h.last + 1) - x) h.write) (sym (ap (λ q. touched_by now q) e ∙ get_or-set_same lists pid held [] within))
         (from_more held g x h.last h.write from (stand_before held gone g x (h.last - x) h.write was (ap (λ b. has_touch (Block g b) h.write gone) at ∙ out e)))
 

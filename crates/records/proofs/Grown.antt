@@ -1,5 +1,5 @@
 -- The rows and the journals are as they should be, as a process has entered blocks that came behind its others.
-use Rattle.std.proofs.Common.{◌≡◌, ◌∙◌, sym, refl, ap, subst, ℕ, suc, ◌+◌, ◌-◌, ◌<◌, ◌≤◌, ◌⊎◌, inl, inr, Bool, true, false, ◌&&◌, ◌||◌, ◌==◌, Option, Some, None, List, [], ◌∷◌, ◌++◌, length, set, map, filter, if◌then◌else◌, arith}
+use Rattle.std.proofs.Common.{◌≡◌, ◌∙◌, sym, refl, ap, subst, ℕ, suc, ◌+◌, ◌-◌, ◌<◌, ◌≤◌, ◌⊎◌, inl, inr, Bool, true, false, ◌&&◌, ◌==◌, Option, Some, None, List, [], ◌∷◌, ◌++◌, length, set, map, filter, if◌then◌else◌, arith}
 use Rattle.std.specs.Prelude.{nat_le}
 use Rattle.std.specs.List.{AllByRecursion, list_any}
 use Rattle.std.proofs.lemmas.Bool.{false≢true, cases_eq, and_parts, eqb-true, eq-eqb, ne_eqb}
@@ -14,7 +14,7 @@ use Rattle.records.specs.declared.row.Holding.{Holding}
 use Rattle.records.specs.Groups.{alike}
 use Rattle.records.specs.Runs.{GoesOnBy}
 use Rattle.records.specs.Touches.{touched_by, distinct}
-use Rattle.records.specs.Rows.{Places, row_at, has_block, is_own, uses, uses_in, uses_at, ended, with_use, IsStartOf, IsRowOf, HaveNoStart, IsSingle, Puts, Opens, IsEntered, StandsIn, AreRowsOf}
+use Rattle.records.specs.Rows.{Places, row_at, has_block, is_own, uses, uses_in, uses_at, ended, with_use, IsStartOf, IsRowOf, HaveNoStart, Puts, Opens, IsEntered, StandsIn, AreRowsOf}
 use Rattle.records.proofs.Entered.{put, used_last, entered_uses}
 use Rattle.records.proofs.Journaled.{uses_entered}
 use Rattle.records.proofs.Rowed.{row_along, row_of_start, uses_less}
@@ -141,7 +141,7 @@ module _ (lists : List (List Touch)) (p n : Places) (f first last pid : ℕ) (v 
       let at : k ≡ s + j = omega arith in
       let last_is : touched_by lists pid ≡ touch.1 ++ block_touch f (s + j) v ∷ [] = touch.3 ∙ ap (λ b. touch.1 ++ block_touch f b v ∷ []) at in
       let was : StandTogether (touched_by lists pid) f s (suc j) v = as_more (touched_by lists pid) f s h.last v from
-          (subst (λ x. StandTogether (touched_by lists pid) f s ((h.last + 1) - s) x) way (subst (λ q. StandTogether (touched_by lists q) f s ((h.last + 1) - s) h.write) own stand)) in
+      (subst (λ x. StandTogether (touched_by lists pid) f s ((h.last + 1) - s) x) way (subst (λ q. StandTogether (touched_by lists q) f s ((h.last + 1) - s) h.write) own stand)) in
       let is = stand_on (touched_by lists pid) touch.1 f s j ((last + 1) - first) v (are.once pid) was last_is in
       let start : s + suc j ≡ first = omega arith in
       let count : suc j + ((last + 1) - first) ≡ (last + 1) - s = omega arith in
@@ -210,8 +210,8 @@ module _ (lists : List (List Touch)) (p n : Places) (f first last pid : ℕ) (v 
       (λ y gs lt there. with_below y [] (behind_last y gs lt there) tt)
       (λ x gs lt there. absurd (off gs (sym there ∙ empty x (omega arith) (omega arith))))
       (new_at_end, tt) where
-    off : (gs : List Holding) → Some gs ≡ None → ⊥
-    off gs e = cc
+        off : (gs : List Holding) → Some gs ≡ None → ⊥
+        off gs e = cc
 
   -- a row opens behind one, which is split
   module _ (s : ℕ) (hs : List Holding) (mid : Places) (start : IsStartOf p f first s) (lt : s < first) (is : p f s ≡ Some hs)
@@ -304,8 +304,8 @@ module _ (lists : List (List Touch)) (p n : Places) (f first last pid : ℕ) (v 
     pub split_rows : AreShaped now n
     split_rows = put_shaped now cut n f first (with_use pid v last (filter (has_block first) hs)) shaped_cut new_puts (with_single pid last v (filter (has_block first) hs) (filter_single (has_block first) hs (are.single f s hs is)))
         (λ y gs more there.
-            let was : p f y ≡ Some gs = sym (cut_at y (λ e. absurd (omega arith))) ∙ there in
-            with_below y (filter (has_block first) hs) (behind_last y gs more was) (all_filter (λ h. h.last < y) (has_block first) hs (are.apart.each f s y hs gs is was (omega arith))))
+        let was : p f y ≡ Some gs = sym (cut_at y (λ e. absurd (omega arith))) ∙ there in
+        with_below y (filter (has_block first) hs) (behind_last y gs more was) (all_filter (λ h. h.last < y) (has_block first) hs (are.apart.each f s y hs gs is was (omega arith))))
         below_new
         new_stands
 

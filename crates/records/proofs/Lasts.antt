@@ -1,8 +1,7 @@
 -- The entries of a journal and the touches that they stand for, as the last one changes, comes or goes.
-use Rattle.std.proofs.Common.{◌≡◌, ◌∙◌, sym, refl, ap, subst, ℕ, zero, suc, ◌+◌, ◌-◌, ◌*◌, ◌^◌, ◌<◌, ◌≤◌, Bool, true, false, Option, Some, None, List, [], ◌∷◌, ◌++◌, length, get_or, set, take, append_assoc, arith}
+use Rattle.std.proofs.Common.{◌≡◌, ◌∙◌, sym, refl, ap, subst, ℕ, zero, suc, ◌+◌, ◌-◌, ◌*◌, ◌^◌, ◌<◌, ◌≤◌, Bool, Option, Some, None, List, [], ◌∷◌, ◌++◌, length, get_or, set, take, append_assoc, arith}
 use Rattle.std.specs.Prelude.{IfSome, IfNone, MatchOption}
 use Rattle.std.specs.Option.{option_to_list}
-use Rattle.std.specs.List.{AllByRecursion}
 use Rattle.std.proofs.lemmas.List.{append-nil, length-append, same_from_push}
 use Rattle.model.specs.Aspects.{Block}
 use Rattle.model.specs.Steps.{Touch}
@@ -109,17 +108,23 @@ joined_is f a n g b m v w file way at =
 pub behind_is : (f a n g b : ℕ) (v w : Bool) → 0 < n → f ≡ g → v ≡ w → a + n ≡ b → GoesOnBy (touches_of_blocks f a n v) g b w
 behind_is f a n g b v w some file way at =
     let k : ℕ = n - 1 in
-    let e : suc k ≡ n = omega arith in
-    (a + k, touches_of_blocks f a k v, omega arith,
-    ap (λ m. touches_of_blocks f a m v) (sym e)
-    ∙ sym (blocks_more f a k v)
-    ∙ ap (λ x. touches_of_blocks f a k v ++ block_touch x (a + k) v ∷ []) file
-    ∙ ap (λ x. touches_of_blocks f a k v ++ block_touch g (a + k) x ∷ []) way)
+    let e : suc k ≡ n = omega arith in (
+      a + k,
+      touches_of_blocks f a k v,
+      omega arith,
+      ap (λ m. touches_of_blocks f a m v) (sym e)
+          ∙ sym (blocks_more f a k v)
+          ∙ ap (λ x. touches_of_blocks f a k v ++ block_touch x (a + k) v ∷ []) file
+          ∙ ap (λ x. touches_of_blocks f a k v ++ block_touch g (a + k) x ∷ []) way,
+    )
 
 pub goes_on_last : (xs : List Touched) (i : ℕ) (x : Touched) (f b : ℕ) (w : Bool) → length xs ≡ suc i → x ≡ get_or xs i x → GoesOnBy (touches_of x) f b w → GoesOnBy (expanded xs) f b w
-goes_on_last xs i x f b w long is on =
-    (on.0, expanded (take i xs) ++ on.1, on.2,
-    expanded_last xs i x long is ∙ ap (λ l. expanded (take i xs) ++ l) on.3 ∙ sym (append_assoc (expanded (take i xs)) on.1 (record { aspect = Block f on.0; write = w } ∷ [])))
+goes_on_last xs i x f b w long is on = (
+  on.0,
+  expanded (take i xs) ++ on.1,
+  on.2,
+  expanded_last xs i x long is ∙ ap (λ l. expanded (take i xs) ++ l) on.3 ∙ sym (append_assoc (expanded (take i xs)) on.1 (record { aspect = Block f on.0; write = w } ∷ [])),
+)
 
 -- blocks are cut
 pub cut_is : (f a n gone : ℕ) (v : Bool) → gone ≤ n → touches_of_blocks f a n v ≡ touches_of_blocks f a (n - gone) v ++ touches_of_blocks f (a + (n - gone)) gone v

@@ -1,5 +1,5 @@
 -- Who uses which block, as a process goes from blocks of a file that it touched last.
-use Rattle.std.proofs.Common.{◌≡◌, ◌∙◌, sym, refl, ap, subst, ℕ, zero, suc, ◌-◌, ◌<◌, ◌≤◌, inl, inr, Bool, true, false, not, ◌&&◌, ◌||◌, ◌==◌, Option, Some, None, List, [], ◌∷◌, map, if◌then◌else◌, arith}
+use Rattle.std.proofs.Common.{◌≡◌, ◌∙◌, sym, refl, ap, subst, ℕ, zero, suc, ◌<◌, ◌≤◌, inl, inr, Bool, true, false, not, ◌&&◌, ◌||◌, ◌==◌, Option, Some, None, List, [], ◌∷◌, map, if◌then◌else◌, arith}
 use Rattle.std.specs.Prelude.{nat_le, nat_lt}
 use Rattle.std.specs.Option.{option_or, option_map}
 use Rattle.std.specs.List.{AllByRecursion}
@@ -33,12 +33,12 @@ ends_before q c y w [] le all = refl
 ends_before q c y w (h ∷ hs) le all =
     let off : has_block c h ≡ false = past c y h le all.0 in
     ap (λ k. (is_own q w h && k) || uses q w c hs) off ∙ ap (λ k. k || uses q w c hs) (none (is_own q w h)) ∙ ends_before q c y w hs le all.1 where
-  none : (a : Bool) → (a && false) ≡ false
-  none true = refl
-  none false = refl
+      none : (a : Bool) → (a && false) ≡ false
+      none true = refl
+      none false = refl
 
-  past : (c y : ℕ) (h : Holding) → y ≤ c → h.last < y → has_block c h ≡ false
-  past c y h le lt = grind (arith, nat_tests)
+      past : (c y : ℕ) (h : Holding) → y ≤ c → h.last < y → has_block c h ≡ false
+      past c y h le lt = grind (arith, nat_tests)
 
 unused_behind : (p : Places) (f b y q c : ℕ) (w : Bool) (gs : List Holding) → AreApart p → b < y → y ≤ c → p f y ≡ Some gs → uses_in (row_at p f b) q w c ≡ false
 unused_behind p f b y q c w gs apart lt le there = by (row_at p f b) refl where
@@ -58,40 +58,40 @@ own_ended_uses p c q b v w (h ∷ hs) some =
     ap (λ r. (is_own q w (own_ended p v c h) && has_block b (own_ended p v c h)) || r) (own_ended_uses p c q b v w hs some)
     ∙ ap (λ x. x || (not (is_user p v q w && nat_le c b) && uses q w b hs)) (one (is_own p v h) refl)
     ∙ parted (not (is_user p v q w && nat_le c b)) (is_own q w h && has_block b h) (uses q w b hs) where
-  parted : (n x y : Bool) → ((n && x) || (n && y)) ≡ (n && (x || y))
-  parted true x y = refl
-  parted false x y = refl
+      parted : (n x y : Bool) → ((n && x) || (n && y)) ≡ (n && (x || y))
+      parted true x y = refl
+      parted false x y = refl
 
-  not_user : is_own p v h ≡ false → is_own q w h ≡ true → is_user p v q w ≡ false
-  not_user off own = by (is_user p v q w) refl where
-    by : (t : Bool) → is_user p v q w ≡ t → is_user p v q w ≡ false
-    by false is = is
-    by true is = absurd (false≢true (sym off ∙ turned is own)) where
-      turned : is_user p v q w ≡ true → is_own q w h ≡ true → is_own p v h ≡ true
-      turned is own = grind (arith, is, own)
+      not_user : is_own p v h ≡ false → is_own q w h ≡ true → is_user p v q w ≡ false
+      not_user off own = by (is_user p v q w) refl where
+        by : (t : Bool) → is_user p v q w ≡ t → is_user p v q w ≡ false
+        by false is = is
+        by true is = absurd (false≢true (sym off ∙ turned is own)) where
+          turned : is_user p v q w ≡ true → is_own q w h ≡ true → is_own p v h ≡ true
+          turned is own = grind (arith, is, own)
 
-  kept : (u o k l : Bool) → (o ≡ true → u ≡ false) → (o && k) ≡ (not (u && l) && (o && k))
-  kept u true k l f = ap (λ x. not (x && l) && k) (sym (f refl))
-  kept true false k true f = refl
-  kept true false k false f = refl
-  kept false false k l f = refl
+      kept : (u o k l : Bool) → (o ≡ true → u ≡ false) → (o && k) ≡ (not (u && l) && (o && k))
+      kept u true k l f = ap (λ x. not (x && l) && k) (sym (f refl))
+      kept true false k true f = refl
+      kept true false k false f = refl
+      kept false false k l f = refl
 
-  by_block : (t : Bool) → nat_le c b ≡ t → (is_own q w h && has_block b (ended c h)) ≡ (not (is_own q w h && t) && (is_own q w h && has_block b h))
-  by_block true e = let le : c ≤ b = grind (arith, nat_tests) in ap (λ k. is_own q w h && k) (ended_behind c b h some le) ∙ gone (is_own q w h) (has_block b h) where
-    gone : (o k : Bool) → (o && false) ≡ (not (o && true) && (o && k))
-    gone true k = refl
-    gone false k = refl
-  by_block false e = let lt : b < c = grind (arith, nat_tests) in ap (λ k. is_own q w h && k) (ended_before c b h lt) ∙ stays (is_own q w h) (has_block b h) where
-    stays : (o k : Bool) → (o && k) ≡ (not (o && false) && (o && k))
-    stays true k = refl
-    stays false k = refl
+      by_block : (t : Bool) → nat_le c b ≡ t → (is_own q w h && has_block b (ended c h)) ≡ (not (is_own q w h && t) && (is_own q w h && has_block b h))
+      by_block true e = let le : c ≤ b = grind (arith, nat_tests) in ap (λ k. is_own q w h && k) (ended_behind c b h some le) ∙ gone (is_own q w h) (has_block b h) where
+        gone : (o k : Bool) → (o && false) ≡ (not (o && true) && (o && k))
+        gone true k = refl
+        gone false k = refl
+      by_block false e = let lt : b < c = grind (arith, nat_tests) in ap (λ k. is_own q w h && k) (ended_before c b h lt) ∙ stays (is_own q w h) (has_block b h) where
+        stays : (o k : Bool) → (o && k) ≡ (not (o && false) && (o && k))
+        stays true k = refl
+        stays false k = refl
 
-  one : (o : Bool) → is_own p v h ≡ o → (is_own q w (if o then ended c h else h) && has_block b (if o then ended c h else h)) ≡ (not (is_user p v q w && nat_le c b) && (is_own q w h && has_block b h))
-  one true own =
-      ap (λ x. x && has_block b (ended c h)) (own_as_ended c q w h)
-      ∙ by_block (nat_le c b) refl
-      ∙ ap (λ u. not (u && nat_le c b) && (is_own q w h && has_block b h)) (own_is p q v w h own)
-  one false off = kept (is_user p v q w) (is_own q w h) (has_block b h) (nat_le c b) (not_user off)
+      one : (o : Bool) → is_own p v h ≡ o → (is_own q w (if o then ended c h else h) && has_block b (if o then ended c h else h)) ≡ (not (is_user p v q w && nat_le c b) && (is_own q w h && has_block b h))
+      one true own =
+          ap (λ x. x && has_block b (ended c h)) (own_as_ended c q w h)
+          ∙ by_block (nat_le c b) refl
+          ∙ ap (λ u. not (u && nat_le c b) && (is_own q w h && has_block b h)) (own_is p q v w h own)
+      one false off = kept (is_user p v q w) (is_own q w h) (has_block b h) (nat_le c b) (not_user off)
 
 -- The rows of a file that a process leaves: no use of its own that starts in the blocks or before them goes on
 -- behind them.
@@ -108,11 +108,11 @@ module _ (p n : Places) (f first last pid : ℕ) (v : Bool) (left : AreLeft p n 
       subst (λ x. uses x w c hs ≡ false) (eqb-true pid q parts.0)
       (subst (λ x. uses pid x c hs ≡ false) (alike_is v w parts.1)
       (sym (ap (λ o. uses_in o pid v c) (row_from_start p f y hs is)) ∙ ends y c at more)) where
-    alike_is : (x z : Bool) → alike x z ≡ true → x ≡ z
-    alike_is true true h = refl
-    alike_is true false h = cc
-    alike_is false true h = cc
-    alike_is false false h = refl
+        alike_is : (x z : Bool) → alike x z ≡ true → x ≡ z
+        alike_is true true h = refl
+        alike_is true false h = cc
+        alike_is false true h = cc
+        alike_is false false h = refl
 
   cut : (u l k r : Bool) → (u ≡ true → k ≡ false → r ≡ false) → (not (u && l) && r) ≡ (not (u && (l && k)) && r)
   cut false l k r h = refl
@@ -160,29 +160,29 @@ module _ (p n : Places) (f first last pid : ℕ) (v : Bool) (left : AreLeft p n 
         let to : y ≤ last = grind (arith, nat_tests) in
         let here : nat_le first c ≡ true = grind (arith, nat_tests) in
         let same : (not (is_user pid v q w) && uses q w c hs) ≡ (not (is_user pid v q w && (nat_le first c && nat_le c last)) && uses q w c hs) =
-            ap (λ k. not k && uses q w c hs) (sym (all_right (is_user pid v q w)))
-            ∙ ap (λ k. not (is_user pid v q w && k) && uses q w c hs) (sym here)
-            ∙ cut (is_user pid v q w) (nat_le first c) (nat_le c last) (uses q w c hs) (λ user far. user_ends y c q w hs is to user far) in
+        ap (λ k. not k && uses q w c hs) (sym (all_right (is_user pid v q w)))
+        ∙ ap (λ k. not (is_user pid v q w && k) && uses q w c hs) (sym here)
+        ∙ cut (is_user pid v q w) (nat_le first c) (nat_le c last) (uses q w c hs) (λ user far. user_ends y c q w hs is to user far) in
         left_row (without_use pid v hs) refl same where
-      all_right : (a : Bool) → (a && true) ≡ a
-      all_right true = refl
-      all_right false = refl
+          all_right : (a : Bool) → (a && true) ≡ a
+          all_right true = refl
+          all_right false = refl
 
-      left_row : (gs : List Holding) → without_use pid v hs ≡ gs → (not (is_user pid v q w) && uses q w c hs) ≡ (not (is_user pid v q w && (nat_le first c && nat_le c last)) && uses q w c hs)
-          → uses_in (option_or (some_if (without_use pid v hs)) bn) q w c ≡ (not (is_user pid v q w && (nat_le first c && nat_le c last)) && uses q w c hs)
-      left_row [] empty same =
-          ap (λ gs. uses_in (option_or (some_if gs) bn) q w c) empty
-          ∙ prior
-          ∙ ap (λ u. not (is_user pid v q w && (nat_le first c && nat_le c last)) && u) (none hs is)
-          ∙ none_right (not (is_user pid v q w && (nat_le first c && nat_le c last)))
-          ∙ ap (uses q w c) (sym empty)
-          ∙ without_uses pid q c v w hs
-          ∙ same
-      left_row (g ∷ gs) some same =
-          ap (λ gs. uses_in (option_or (some_if gs) bn) q w c) some
-          ∙ ap (uses q w c) (sym some)
-          ∙ without_uses pid q c v w hs
-          ∙ same
+          left_row : (gs : List Holding) → without_use pid v hs ≡ gs → (not (is_user pid v q w) && uses q w c hs) ≡ (not (is_user pid v q w && (nat_le first c && nat_le c last)) && uses q w c hs)
+              → uses_in (option_or (some_if (without_use pid v hs)) bn) q w c ≡ (not (is_user pid v q w && (nat_le first c && nat_le c last)) && uses q w c hs)
+          left_row [] empty same =
+              ap (λ gs. uses_in (option_or (some_if gs) bn) q w c) empty
+              ∙ prior
+              ∙ ap (λ u. not (is_user pid v q w && (nat_le first c && nat_le c last)) && u) (none hs is)
+              ∙ none_right (not (is_user pid v q w && (nat_le first c && nat_le c last)))
+              ∙ ap (uses q w c) (sym empty)
+              ∙ without_uses pid q c v w hs
+              ∙ same
+          left_row (g ∷ gs) some same =
+              ap (λ gs. uses_in (option_or (some_if gs) bn) q w c) some
+              ∙ ap (uses q w c) (sym some)
+              ∙ without_uses pid q c v w hs
+              ∙ same
 
     by : (o : Option (List Holding)) → p f y ≡ o → uses_in (option_or (n f y) bn) q w c ≡ (not (is_user pid v q w && (nat_le first c && nat_le c last)) && uses_in (option_or (p f y) bp) q w c)
     by None is =

@@ -1,6 +1,6 @@
 -- Changes of the map of rows, as changes of one row.
-use Rattle.std.proofs.Common.{◌≡◌, ◌∙◌, sym, refl, ap, subst, ℕ, suc, ◌<◌, ◌≤◌, ◌+◌, ◌⊎◌, inl, inr, Bool, true, false, cond, ◌&&◌, ◌||◌, ◌==◌, Option, Some, None, Result, Ok, Err, OnOk, OnErr, IfOk, List, [], ◌∷◌, ◌++◌, map, filter, if◌then◌else◌, arith}
-use Rattle.std.specs.Option.{is_some, IsSome, option_map}
+use Rattle.std.proofs.Common.{◌≡◌, ◌∙◌, sym, refl, ap, subst, ℕ, ◌<◌, Bool, true, false, cond, ◌&&◌, ◌==◌, Option, Some, None, List, [], ◌∷◌, ◌++◌, map, filter, if◌then◌else◌, arith}
+use Rattle.std.specs.Option.{option_map}
 use Rattle.std.specs.Ordering.{is_eq, nat_cmp, ordering_then}
 use Rattle.std.specs.BTreeMap as tree
 use Rattle.std.specs.Map.{lookup}
@@ -9,12 +9,12 @@ use Rattle.std.specs.declared.cmp.Ordering.{Ordering}
 use Rattle.std.specs.declared.cmp.Ordering.TheVariants.{Less, Equal, Greater}
 use Rattle.std.specs.declared.ops.Bound.TheVariants.{Included}
 use Rattle.std.specs.Cmp.{nat_cmp_total, tied_itself}
-use Rattle.std.proofs.lemmas.Bool.{false≢true, cases_eq, eqb-true, eq-eqb, ne_eqb, and_parts}
+use Rattle.std.proofs.lemmas.Bool.{false≢true, eqb-true, eq-eqb, and_parts}
 use Rattle.model.specs.FiniteMap.{nat_cmp-IsAntisymmetric}
 use Rattle.model.proofs.Laws.{tie}
 use Rattle.records.specs.declared.row.Holding.{Holding}
 use Rattle.records.specs.declared.row.Row.{Row}
-use Rattle.records.specs.Rows.{Places, place_cmp, places_of, holdings_of, row_at, has_block, ended, with_use, without_use, some_if, is_nobody, is_deserted, left_of, IsStartOf, Puts, SamePlaces, Opens}
+use Rattle.records.specs.Rows.{Places, place_cmp, places_of, holdings_of, row_at, has_block, ended, with_use, without_use, some_if, is_nobody, is_deserted, left_of, Puts, SamePlaces, Opens}
 use Rattle.records.proofs.Entering.{put_at, put_off}
 use Rattle.records.proofs.Places.{RowMap, last_start, last_there}
 use Rattle.records.proofs.Rowed.{row_of_start}
@@ -116,16 +116,18 @@ pub row_gone : (p k n : Places) (f s pid : ℕ) (v : Bool) → Puts p k f s (opt
 row_gone p k n f s pid v puts nobody gone =
     subst (λ o. Puts p n f s o) (sym (left_none pid v (p f s) (sym (ap is_deserted (put_at p k f s (option_map (λ hs. without_use pid v hs) (p f s)) puts)) ∙ nobody)))
     (λ g b. gone g b ∙ by g b ((g == f) && (b == s)) refl) where
-  by : (g b : ℕ) (t : Bool) → ((g == f) && (b == s)) ≡ t → (if t then None else k g b) ≡ (if t then None else p g b)
-  by g b true e = refl
-  by g b false e = puts g b ∙ ap (λ t. if t then option_map (λ hs. without_use pid v hs) (p f s) else p g b) e
+      by : (g b : ℕ) (t : Bool) → ((g == f) && (b == s)) ≡ t → (if t then None else k g b) ≡ (if t then None else p g b)
+      by g b true e = refl
+      by g b false e = puts g b ∙ ap (λ t. if t then option_map (λ hs. without_use pid v hs) (p f s) else p g b) e
 
 -- A row opens behind one that is cut.
 pub opened_behind : (p k n : Places) (f s first pid last : ℕ) (v : Bool) (row : List Holding) → s < first → ((hs : List Holding) → p f s ≡ Some hs → row ≡ with_use pid v last (filter (has_block first) hs))
     → Puts p k f first (Some row) → Puts k n f s (option_map (λ hs. map (ended first) hs) (k f s)) → Opens p n f (Some s) first pid v last
-opened_behind p k n f s first pid last v row lt is puts cut hs there =
-    (k, subst (λ l. Puts p k f first (Some l)) (is hs there) puts,
-    put_there k n f s (λ hs. map (ended first) hs) cut hs (put_off p k f first (Some row) puts s (λ e. absurd (omega arith)) ∙ there))
+opened_behind p k n f s first pid last v row lt is puts cut hs there = (
+  k,
+  subst (λ l. Puts p k f first (Some l)) (is hs there) puts,
+  put_there k n f s (λ hs. map (ended first) hs) cut hs (put_off p k f first (Some row) puts s (λ e. absurd (omega arith)) ∙ there),
+)
 
 -- the row of a block is the last one of a range
 pub last_row : (rows : RowMap) (f b : ℕ) (e : (ℕ × ℕ) × Row) (t r : List ((ℕ × ℕ) × Row)) → IsRangeOf place_cmp (Included (f, 0)) (Included (f, b)) rows r → r ≡ t ++ e ∷ [] → Some e.1.holdings.items ≡ row_at (places_of rows) f b

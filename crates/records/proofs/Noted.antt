@@ -1,6 +1,5 @@
 -- The rows, the index and the journals, as a process notes blocks or forgets them.
-use Rattle.std.proofs.Common.{◌≡◌, ◌≢◌, ◌∙◌, sym, refl, ap, subst, ℕ, suc, ◌+◌, ◌-◌, ◌<◌, ◌≤◌, inl, inr, Bool, true, false, not, ◌&&◌, ◌||◌, Option, Some, None, Result, Ok, Err, OnOk, OnErr, List, [], ◌∷◌, ◌++◌, length, set, take, if◌then◌else◌, arith}
-use Rattle.std.specs.List.{AllByRecursion}
+use Rattle.std.proofs.Common.{◌≡◌, ◌≢◌, ◌∙◌, sym, refl, ap, subst, ℕ, suc, ◌+◌, ◌-◌, ◌<◌, ◌≤◌, inl, inr, Bool, true, false, not, ◌&&◌, ◌||◌, Some, None, Result, Ok, Err, OnOk, OnErr, List, [], ◌∷◌, ◌++◌, length, set, take, if◌then◌else◌, arith}
 use Rattle.std.proofs.Math.Path.{fun_ext}
 use Rattle.std.proofs.lemmas.Bool.{cases_eq, false≢true}
 use Rattle.std.proofs.lemmas.List.{append-nil, get_or-set_same, get_or-set_other, set-set, set-get_or, length-set, length-append, take_at}
@@ -136,10 +135,10 @@ rows_other lists p pid t are within other none = rows_set lists p pid (touched_b
 pub rows_without : (lists : List (List Touch)) (p : Places) (pid : ℕ) (t : Touch) (held : List Touch) → AreRowsOf lists p → pid < length lists → is_block_aspect t.aspect ≡ false → touched_by lists pid ≡ held ++ t ∷ [] → AreRowsOf (set lists pid held) p
 rows_without lists p pid t held are within other is = rows_set lists p pid held are within (λ f b w. sym (ap (has_touch (Block f b) w) is ∙ other_has t f b w held other)) (once_popped held (touched_by lists pid) t is (are.once pid)).0
     (λ g y h le stand.
-        let at : y + (h.last - y) ≡ h.last = omega arith in
-        from_more held g y h.last h.write le
-        (stand_before held (t ∷ []) g y (h.last - y) h.write (as_more (held ++ t ∷ []) g y h.last h.write le (subst (λ x. StandTogether x g y ((h.last + 1) - y) h.write) is stand))
-        (has_push (block_touch g (y + (h.last - y)) h.write) t [] ∙ ap (λ x. x || false) (no_block t g (y + (h.last - y)) h.write other))))
+    let at : y + (h.last - y) ≡ h.last = omega arith in
+    from_more held g y h.last h.write le
+    (stand_before held (t ∷ []) g y (h.last - y) h.write (as_more (held ++ t ∷ []) g y h.last h.write le (subst (λ x. StandTogether x g y ((h.last + 1) - y) h.write) is stand))
+    (has_push (block_touch g (y + (h.last - y)) h.write) t [] ∙ ap (λ x. x || false) (no_block t g (y + (h.last - y)) h.write other))))
 
 -- and the index with it
 only_other : (t : Touch) → is_block_aspect t.aspect ≡ false → without_blocks (t ∷ []) ≡ t ∷ []

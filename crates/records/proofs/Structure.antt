@@ -1,5 +1,5 @@
 -- What holds of each row, as holdings are put in, cut or left out.
-use Rattle.std.proofs.Common.{◌≡◌, ◌∙◌, sym, refl, ap, subst, ℕ, ◌+◌, ◌-◌, ◌<◌, ◌≤◌, Bool, true, false, not, ◌&&◌, ◌||◌, ◌==◌, List, [], ◌∷◌, map, filter, if◌then◌else◌, arith}
+use Rattle.std.proofs.Common.{◌≡◌, ◌∙◌, sym, refl, ap, ℕ, ◌-◌, ◌<◌, Bool, true, false, ◌&&◌, ◌||◌, ◌==◌, List, [], ◌∷◌, map, filter, if◌then◌else◌, arith}
 use Rattle.std.specs.List.{AllByRecursion, list_any}
 use Rattle.std.proofs.lemmas.Bool.{false≢true, and_parts, eqb-true}
 use Rattle.std.proofs.lemmas.Bool.Decides.{nat_tests}
@@ -52,8 +52,8 @@ pub ended_single : (c : ℕ) (hs : List Holding) → IsSingle hs → IsSingle (m
 ended_single c [] single = tt
 ended_single c (h ∷ hs) single = (
   ap (λ q. list_any (is_own q (ended c h).write) (map (ended c) hs)) (ended_pid c h)
-  ∙ ap (λ w. list_any (is_own h.pid w) (map (ended c) hs)) (ended_write c h)
-  ∙ any_ended c h.pid h.write hs ∙ single.0,
+      ∙ ap (λ w. list_any (is_own h.pid w) (map (ended c) hs)) (ended_write c h)
+      ∙ any_ended c h.pid h.write hs ∙ single.0,
   ended_single c hs single.1,
 )
 

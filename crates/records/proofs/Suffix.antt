@@ -1,12 +1,12 @@
 -- A list in which each touch stands once, as several are added at its end or taken from there.
-use Rattle.std.proofs.Common.{◌≡◌, ◌∙◌, sym, refl, ap, subst, ℕ, zero, suc, ◌+◌, ◌<◌, ◌≤◌, inl, inr, Bool, true, false, not, ◌&&◌, ◌||◌, ◌==◌, List, [], ◌∷◌, ◌++◌, length, take, if◌then◌else◌, append_assoc, arith}
+use Rattle.std.proofs.Common.{◌≡◌, ◌∙◌, sym, refl, ap, ℕ, zero, suc, ◌+◌, ◌<◌, ◌≤◌, inl, inr, Bool, true, false, not, ◌&&◌, ◌||◌, ◌==◌, List, [], ◌∷◌, ◌++◌, length, take, if◌then◌else◌, append_assoc, arith}
 use Rattle.std.specs.Prelude.{nat_le, nat_lt}
 use Rattle.std.proofs.lemmas.Bool.{cases_eq, eq-eqb, ne_eqb}
 use Rattle.std.proofs.lemmas.Bool.Decides.{nat_tests}
 use Rattle.std.proofs.lemmas.List.{append-nil, length-append, take_at}
 use Rattle.model.specs.Aspects.{Block}
 use Rattle.model.specs.Steps.{Touch}
-use Rattle.model.specs.Clashes.{same_aspect, has_touch}
+use Rattle.model.specs.Clashes.{has_touch}
 use Rattle.touches.specs.Expanded.{touches_of_blocks}
 use Rattle.touches.proofs.Runs.{block_touch}
 use Rattle.records.specs.Codes.{is_touch}
@@ -47,9 +47,9 @@ other_block f a b w lt =
     touch_parts (Block f a) w (block_touch f b w)
     ∙ ap (λ x. ((f == f) && x) && alike w w) (ne_eqb a b (λ e. absurd (omega arith)))
     ∙ none (f == f) (alike w w) where
-  none : (x y : Bool) → ((x && false) && y) ≡ false
-  none true y = refl
-  none false y = refl
+      none : (x y : Bool) → ((x && false) && y) ≡ false
+      none true y = refl
+      none false y = refl
 
 pub new_blocks : (f a n : ℕ) (w : Bool) (held : List Touch) → ((b : ℕ) → a ≤ b → b < a + n → has_touch (Block f b) w held ≡ false) → AreNew held (touches_of_blocks f a n w)
 new_blocks f a zero w held none = sym (append-nil held)
@@ -58,9 +58,9 @@ new_blocks f a (suc n) w held none =
     let first : with_touch held t ≡ held ++ t ∷ [] = with_new held t (none a (omega arith) (omega arith)) in
     ap (λ l. with_touches l (touches_of_blocks f (suc a) n w)) first
     ∙ new_blocks f (suc a) n w (held ++ t ∷ []) (λ b from to.
-        has_push (block_touch f b w) t held
-        ∙ ap (λ x. x || has_touch (Block f b) w held) (other_block f a b w (omega arith))
-        ∙ none b (omega arith) (omega arith))
+    has_push (block_touch f b w) t held
+    ∙ ap (λ x. x || has_touch (Block f b) w held) (other_block f a b w (omega arith))
+    ∙ none b (omega arith) (omega arith))
     ∙ append_assoc held (t ∷ []) (touches_of_blocks f (suc a) n w)
 
 -- blocks that are all there already

@@ -3,16 +3,13 @@ use Rattle.std.proofs.Common.{◌≡◌, ◌∙◌, sym, refl, ap, ℕ, suc, ◌
 use Rattle.std.proofs.lemmas.Bool.{false≢true}
 use Rattle.std.proofs.lemmas.List.{append-nil, same_from_push}
 use Rattle.std.proofs.lemmas.List.Folds.{list_any-append}
-use Rattle.model.specs.Aspects.{Block}
 use Rattle.model.specs.Steps.{Touch}
 use Rattle.model.specs.Clashes.{same_aspect}
 use Rattle.touches.specs.Expanded.{touches_of_blocks}
 use Rattle.touches.proofs.Runs.{block_touch, blocks_more, blocks_append}
-use Rattle.records.specs.Codes.{is_touch}
 use Rattle.records.specs.Index.{has}
-use Rattle.records.specs.Touches.{with_touch, with_touches, distinct}
+use Rattle.records.specs.Touches.{distinct}
 use Rattle.records.proofs.Exact.{test_is, touch_itself}
-use Rattle.records.proofs.Indexing.{has_push}
 use Rattle.records.proofs.Suffix.{AreNew, once_before}
 
 -- so many blocks of a file stand there from one on, one behind the other
@@ -26,19 +23,21 @@ stand_in_part ts f a n j k w le stand =
     let m : ℕ = n - (j + k) in
     let e : n ≡ (j + k) + m = omega arith in
     let all : touches_of_blocks f a n w ≡ (touches_of_blocks f a j w ++ touches_of_blocks f (a + j) k w) ++ touches_of_blocks f (a + (j + k)) m w =
-        ap (λ x. touches_of_blocks f a x w) e ∙ sym (blocks_append f a (j + k) m w) ∙ ap (λ x. x ++ touches_of_blocks f (a + (j + k)) m w) (sym (blocks_append f a j k w)) in
-    (stand.0 ++ touches_of_blocks f a j w, touches_of_blocks f (a + (j + k)) m w ++ stand.1,
-    stand.2 ∙ ap (λ x. stand.0 ++ (x ++ stand.1)) all
-    ∙ regroup stand.0 (touches_of_blocks f a j w) (touches_of_blocks f (a + j) k w) (touches_of_blocks f (a + (j + k)) m w) stand.1) where
-  regroup : (x a b c y : List Touch) → x ++ (((a ++ b) ++ c) ++ y) ≡ (x ++ a) ++ (b ++ (c ++ y))
-  regroup x a b c y = simp append_assoc
+    ap (λ x. touches_of_blocks f a x w) e ∙ sym (blocks_append f a (j + k) m w) ∙ ap (λ x. x ++ touches_of_blocks f (a + (j + k)) m w) (sym (blocks_append f a j k w)) in (
+      stand.0 ++ touches_of_blocks f a j w,
+      touches_of_blocks f (a + (j + k)) m w ++ stand.1,
+      stand.2 ∙ ap (λ x. stand.0 ++ (x ++ stand.1)) all
+          ∙ regroup stand.0 (touches_of_blocks f a j w) (touches_of_blocks f (a + j) k w) (touches_of_blocks f (a + (j + k)) m w) stand.1,
+    ) where
+      regroup : (x a b c y : List Touch) → x ++ (((a ++ b) ++ c) ++ y) ≡ (x ++ a) ++ (b ++ (c ++ y))
+      regroup x a b c y = simp append_assoc
 
 -- with more behind
 pub stand_with_more : (ts us : List Touch) (f a n : ℕ) (w : Bool) → StandTogether ts f a n w → StandTogether (ts ++ us) f a n w
 stand_with_more ts us f a n w stand =
     (stand.0, stand.1 ++ us, ap (λ x. x ++ us) stand.2 ∙ regroup stand.0 (touches_of_blocks f a n w) stand.1 us) where
-  regroup : (x b y z : List Touch) → (x ++ (b ++ y)) ++ z ≡ x ++ (b ++ (y ++ z))
-  regroup x b y z = simp append_assoc
+      regroup : (x b y z : List Touch) → (x ++ (b ++ y)) ++ z ≡ x ++ (b ++ (y ++ z))
+      regroup x b y z = simp append_assoc
 
 -- at the end
 pub stand_at_end : (ts : List Touch) (f a n : ℕ) (w : Bool) → StandTogether (ts ++ touches_of_blocks f a n w) f a n w
@@ -89,13 +88,15 @@ nothing_behind ts before after init t once is last = elim (snoc after) [
 pub stand_on : (ts init : List Touch) (f a n k : ℕ) (w : Bool) → distinct ts ≡ ts → StandTogether ts f a (suc n) w → ts ≡ init ++ block_touch f (a + n) w ∷ [] → StandTogether (ts ++ touches_of_blocks f (a + suc n) k w) f a (suc n + k) w
 stand_on ts init f a n k w once stand last =
     let none : stand.1 ≡ [] = nothing_behind ts (stand.0 ++ touches_of_blocks f a n w) stand.1 init (block_touch f (a + n) w) once
-        (stand.2 ∙ ap (λ x. stand.0 ++ (x ++ stand.1)) (sym (blocks_more f a n w)) ∙ regroup stand.0 (touches_of_blocks f a n w) (block_touch f (a + n) w) stand.1) last in
-    (stand.0, [],
-    ap (λ x. x ++ touches_of_blocks f (a + suc n) k w) (stand.2 ∙ ap (λ x. stand.0 ++ (touches_of_blocks f a (suc n) w ++ x)) none ∙ ap (λ x. stand.0 ++ x) (append-nil (touches_of_blocks f a (suc n) w)))
-    ∙ append_assoc stand.0 (touches_of_blocks f a (suc n) w) (touches_of_blocks f (a + suc n) k w)
-    ∙ ap (λ x. stand.0 ++ x) (blocks_append f a (suc n) k w ∙ sym (append-nil (touches_of_blocks f a (suc n + k) w)))) where
-  regroup : (x b : List Touch) (t : Touch) (y : List Touch) → x ++ ((b ++ t ∷ []) ++ y) ≡ (x ++ b) ++ t ∷ y
-  regroup x b t y = ap (λ z. x ++ z) (append_assoc b (t ∷ []) y) ∙ sym (append_assoc x b (t ∷ y))
+    (stand.2 ∙ ap (λ x. stand.0 ++ (x ++ stand.1)) (sym (blocks_more f a n w)) ∙ regroup stand.0 (touches_of_blocks f a n w) (block_touch f (a + n) w) stand.1) last in (
+      stand.0,
+      [],
+      ap (λ x. x ++ touches_of_blocks f (a + suc n) k w) (stand.2 ∙ ap (λ x. stand.0 ++ (touches_of_blocks f a (suc n) w ++ x)) none ∙ ap (λ x. stand.0 ++ x) (append-nil (touches_of_blocks f a (suc n) w)))
+          ∙ append_assoc stand.0 (touches_of_blocks f a (suc n) w) (touches_of_blocks f (a + suc n) k w)
+          ∙ ap (λ x. stand.0 ++ x) (blocks_append f a (suc n) k w ∙ sym (append-nil (touches_of_blocks f a (suc n + k) w))),
+    ) where
+      regroup : (x b : List Touch) (t : Touch) (y : List Touch) → x ++ ((b ++ t ∷ []) ++ y) ≡ (x ++ b) ++ t ∷ y
+      regroup x b t y = ap (λ z. x ++ z) (append_assoc b (t ∷ []) y) ∙ sym (append_assoc x b (t ∷ y))
 
 -- two ways to part one list
 parted : (xs ys held s : List Touch) → xs ++ ys ≡ held ++ s → ((m : List Touch) × (held ≡ xs ++ m)) ⊎ ((m : List Touch) × (xs ≡ held ++ m) × (s ≡ m ++ ys))
@@ -121,7 +122,7 @@ stand_before held s f a n w stand none = elim (parted (stand.0 ++ touches_of_blo
   among_taken : (m : List Touch) → stand.0 ++ touches_of_blocks f a (suc n) w ≡ held ++ m → s ≡ m ++ stand.1 → (front : List Touch) (t : Touch) → m ≡ front ++ t ∷ [] → ⊥
   among_taken m is rest front t last =
       let whole : (stand.0 ++ touches_of_blocks f a n w) ++ block_touch f (a + n) w ∷ [] ≡ (held ++ front) ++ t ∷ [] =
-          append_assoc stand.0 (touches_of_blocks f a n w) (block_touch f (a + n) w ∷ []) ∙ ap (λ x. stand.0 ++ x) (blocks_more f a n w) ∙ is ∙ ap (λ x. held ++ x) last ∙ sym (append_assoc held front (t ∷ [])) in
+      append_assoc stand.0 (touches_of_blocks f a n w) (block_touch f (a + n) w ∷ []) ∙ ap (λ x. stand.0 ++ x) (blocks_more f a n w) ∙ is ∙ ap (λ x. held ++ x) last ∙ sym (append_assoc held front (t ∷ [])) in
       let same : block_touch f (a + n) w ≡ t = (same_from_push (stand.0 ++ touches_of_blocks f a n w) (held ++ front) (block_touch f (a + n) w) t whole).1 in
       let there : s ≡ front ++ block_touch f (a + n) w ∷ stand.1 = rest ∙ ap (λ x. x ++ stand.1) last ∙ append_assoc front (t ∷ []) stand.1 ∙ ap (λ x. front ++ x ∷ stand.1) (sym same) in
       false≢true (sym none ∙ ap (has (block_touch f (a + n) w)) there ∙ has_inside (block_touch f (a + n) w) front stand.1)

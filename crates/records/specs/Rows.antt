@@ -145,10 +145,10 @@ IsRowOf rows file block (Some start) = IsStartOf rows file block start
 abbrev pub IsEntered : Places → Places → ℕ → ℕ → ℕ → ℕ → Bool → Bool → Type 0
 IsEntered old new file first last pid write goes_on =
     ((start : ℕ) × IsStartOf old file first start × ((start ≡ first) ⊎ (goes_on ≡ true))
-        × ((hs : List Holding) → old file start ≡ Some hs
-        → Puts old new file start (Some (with_use pid write last hs))))
+    × ((hs : List Holding) → old file start ≡ Some hs
+    → Puts old new file start (Some (with_use pid write last hs))))
     ⊎ ((before : Option ℕ) × IsRowOf old file first before × (before ≡ Some first → ⊥)
-        × Opens old new file before first pid write last)
+    × Opens old new file before first pid write last)
 
 -- a row of somebody
 abbrev pub some_if : List Holding → Option (List Holding)
@@ -181,7 +181,7 @@ is_within file first last f b = (file == f) && (nat_le first b && nat_le b last)
 abbrev pub IsEnded : Places → Places → ℕ → ℕ → ℕ → Bool → Type 0
 IsEnded old new file block pid write =
     ((b : ℕ) × (start : ℕ) × (suc b ≡ block) × IsStartOf old file b start
-        × Puts old new file start (option_map (λ hs. map (own_ended pid write block) hs) (old file start)))
+    × Puts old new file start (option_map (λ hs. map (own_ended pid write block) hs) (old file start)))
     ⊎ (((y : ℕ) → y < block → old file y ≡ None) × SamePlaces old new)
 
 -- A process is in no row that starts in these blocks.
@@ -231,4 +231,4 @@ pub record AreRowsOf (lists : List (List Touch)) (rows : Places) : Type 0 where
   -- what a use has came one behind the other, so that it can be taken back from the end
   pub together : (file start : ℕ) (hs : List Holding) → rows file start ≡ Some hs
       → AllByRecursion (λ h. (start ≤ h.last)
-        × StandsIn (touched_by lists h.pid) file start h) hs
+      × StandsIn (touched_by lists h.pid) file start h) hs

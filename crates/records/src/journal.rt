@@ -196,11 +196,7 @@ fn cut_by(touched: &Touched, most: u128) -> Option<Blocks>
     match touched {
         Touched::Blocks(blocks) => {
             let count = u128::from(blocks.count);
-            if count > most {
-                Some(*blocks)
-            } else {
-                None
-            }
+            if count > most { Some(*blocks) } else { None }
         }
         Touched::One(_) => None,
     }

@@ -8,8 +8,8 @@ ghost use Rattle.records.specs.Touches.{touched_by, with_touches};
 ghost use Rattle.model.specs.Steps.{Touch as OfModel};
 ghost use Rattle.touches.specs.Expanded.{expanded, touches_of};
 
-use crate::holders::collect;
 use crate::block_holders::collect_users;
+use crate::holders::collect;
 use crate::index::{Index, clear, is_filled_by};
 use crate::journals::Journals;
 use crate::mark::Mark;

@@ -159,13 +159,7 @@ fn put_in(rows: &mut Rows, user: &User, start: u32, last: u32) -> Result<(), All
 }
 
 /// The users of a row whose use goes on at a block, as a row of its own. Refused memory is an error.
-fn split_row(
-    heap: Heap,
-    rows: &Rows,
-    file: Num,
-    start: u32,
-    block: u32,
-) -> Result<Row, AllocError>
+fn split_row(heap: Heap, rows: &Rows, file: Num, start: u32, block: u32) -> Result<Row, AllocError>
     ensures { (hs : List Holding) → places_of rows.now file start ≡ Some hs
         → IfOk result (λ row. row.holdings.items ≡ filter (has_block block) hs) }
 {

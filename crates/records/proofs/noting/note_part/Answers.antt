@@ -18,7 +18,7 @@ pub returns-in-Ok-clause-ok : goal.returns-in-Ok-clause-ok
 returns-in-Ok-clause-ok c =
     c.in-Ok.ensures.ok
     ∙ ap (set c.args.journals.now c.args.pid) (sym (part_new c.args.journals.now (places_of c.args.rows.now) c.args.blocks.file c.args.blocks.first c.args.last c.args.pid c.args.blocks.count c.args.blocks.write c.requires.rows c.requires.within c.requires.some c.requires.count
-        c.goes_on-goes_on.result c.requires.whole c.requires.free c.goes_on-goes_on.ensures))
+    c.goes_on-goes_on.result c.requires.whole c.requires.free c.goes_on-goes_on.ensures))
 
 pub returns-in-Ok-clause-rows : goal.returns-in-Ok-clause-rows
 returns-in-Ok-clause-rows c = part_rows c.args.journals.now (places_of c.args.rows.now) c.args.blocks.file c.args.blocks.first c.args.last c.args.pid c.args.blocks.count c.args.blocks.write c.requires.rows c.requires.within c.requires.some c.requires.count

@@ -23,10 +23,11 @@ invariant_of-self c =
     let v = c.push_entry.new.entries in
     let ts = touches_of c.args.touched in
     let more : c.from-more.result ≡ length (touches_of c.args.touched) = omega arith in
-    let new : with_touches (expanded xs) ts ≡ expanded xs ++ ts = subst (λ (l : List Touch). with_touches l ts ≡ l ++ ts) (sym c.self.view_is) c.requires.new in
-    (ap distinct c.in-Ok.ensures.ok ∙ once_appended (expanded xs) ts c.self.invariant.0 new ∙ sym c.in-Ok.ensures.ok,
-    counted xs v.items c.args.touched c.self.inside.count c.from-more.result c.in-Ok.ensures.ok c.self.invariant.1 more,
-    c.push_entry.ensures.any c.requires.some c.self.invariant.2)
+    let new : with_touches (expanded xs) ts ≡ expanded xs ++ ts = subst (λ (l : List Touch). with_touches l ts ≡ l ++ ts) (sym c.self.view_is) c.requires.new in (
+      ap distinct c.in-Ok.ensures.ok ∙ once_appended (expanded xs) ts c.self.invariant.0 new ∙ sym c.in-Ok.ensures.ok,
+      counted xs v.items c.args.touched c.self.inside.count c.from-more.result c.in-Ok.ensures.ok c.self.invariant.1 more,
+      c.push_entry.ensures.any c.requires.some c.self.invariant.2,
+    )
 
 pub returns-in-Ok-clause-ok : goal.returns-in-Ok-clause-ok
 returns-in-Ok-clause-ok c = c.in-Ok.ensures.ok ∙ ap (λ (l : List Touch). l ++ touches_of c.args.touched) c.self.view_is

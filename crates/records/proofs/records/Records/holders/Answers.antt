@@ -21,9 +21,9 @@ returns-in-Block c =
     let same : c.args.touch.now.aspect ≡ Block f b = c.in-Block.is in
     rw (← c.self.view_is) (IfOk-weaker c.collect_users.result (λ found. found.items ≡ marks_on_block c.args.caller c.args.touch.now.aspect w b row) (λ found. AreHolders js c.args.caller c.args.touch.now found.items)
     (λ found e.
-        subst (λ (u : Touch). AreHolders js c.args.caller u found.items) (sym (ap (λ a. touch_on a w) same))
-        (block_holders js (places_of c.self.inside.rows) f b c.args.caller c.self.invariant.2 w found.items
-        (e ∙ ap (λ a. marks_on_block c.args.caller a w b row) same ∙ ap (marks_on_block c.args.caller (Block f b) w b) c.row_of-row.ensures)))
+    subst (λ (u : Touch). AreHolders js c.args.caller u found.items) (sym (ap (λ a. touch_on a w) same))
+    (block_holders js (places_of c.self.inside.rows) f b c.args.caller c.self.invariant.2 w found.items
+    (e ∙ ap (λ a. marks_on_block c.args.caller a w b row) same ∙ ap (marks_on_block c.args.caller (Block f b) w b) c.row_of-row.ensures)))
     c.collect_users.ensures)
 
 pub returns-in_default : goal.returns-in_default
