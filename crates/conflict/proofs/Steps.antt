@@ -1,5 +1,5 @@
 -- What the steps of a search for clashes come to.
-use Rattle.std.proofs.Common.{◌≡◌, ◌∙◌, sym, refl, ap, subst, ℕ, true, ◌==◌, List, [], ◌∷◌, ◌++◌, length, Result, Ok, Err, OnOk, arith}
+use Rattle.std.proofs.Common.{◌≡◌, ◌∙◌, sym, ap, subst, ℕ, true, ◌==◌, List, [], ◌∷◌, ◌++◌, length, Result, Ok, Err, OnOk, arith}
 use Rattle.std.proofs.lemmas.Bool.{eqb-true}
 use Rattle.std.proofs.lemmas.List.Concat.{flat_map-append}
 use Rattle.std.proofs.lemmas.List.{append-nil}
