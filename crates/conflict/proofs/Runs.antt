@@ -14,7 +14,7 @@ use Rattle.records.specs.Touches.{touched_by}
 use Rattle.records.proofs.Exact.{aspect_is, aspect_itself}
 use Rattle.touches.specs.Expanded.{touches_of_blocks}
 use Rattle.touches.proofs.Runs.{block_touch, blocks_more, blocks_append}
-use Rattle.conflict.specs.Clashing.{rank_of, name_of, is_before, is_found, AreInOrder, AreClashesOf, AreClashes}
+use Rattle.conflict.specs.Clashing.{name_of, is_before, is_found, AreInOrder, AreClashesOf, AreClashes}
 use Rattle.conflict.specs.Firsts.{first_with, AreFirstsOf}
 use Rattle.conflict.specs.declared.found.Clash.{Clash}
 use Rattle.conflict.proofs.Firsts.{first_append, same_firsts, firsts_append, firsts_via, clashes_append, clashes_of_one}
@@ -245,13 +245,16 @@ none_behind None y h = sym (h refl)
 pub flat : (lists : List (List Touch)) (pid f b k : ℕ) (w : Bool) (own : List Clash) → AreClashesOf lists pid (block_touch f b w) own → ((y : ℕ) → b ≤ y → y < b + k → GoesOn lists f y)
     → (all : List Clash) × (last : List Clash) × IsFlat lists pid f b k w own all last
 flat lists pid f b zero w own are goes =
-    let e : b + 0 ≡ b = omega arith in
-    (own, own, record {
-      clashes = clashes_of_one lists pid (block_touch f b w) own are;
-      firsts = same_firsts own;
-      behind = subst (λ n. AreClashesOf lists pid (block_touch f n w) own) (sym e) are;
-      nobody = λ test none. none;
-    })
+    let e : b + 0 ≡ b = omega arith in (
+      own,
+      own,
+      record {
+        clashes = clashes_of_one lists pid (block_touch f b w) own are;
+        firsts = same_firsts own;
+        behind = subst (λ n. AreClashesOf lists pid (block_touch f n w) own) (sym e) are;
+        nobody = λ test none. none;
+      },
+    )
 flat lists pid f b (suc k) w own are goes =
     let before = flat lists pid f b k w own are (λ y from to. goes y from (omega arith)) in
     let all : List Clash = before.0 in
@@ -261,15 +264,18 @@ flat lists pid f b (suc k) w own are goes =
     let next : List Clash = next_clashes lists (block_touch f (suc (b + k)) w) last in
     let on : AreClashesOf lists pid (block_touch f (suc (b + k)) w) next = next_are lists pid f (b + k) w last (goes (b + k) (omega arith) (omega arith)) was.behind in
     let nobody : (test : ℕ → Bool) → first_with test own ≡ None → first_with test next ≡ None = λ test none. next_nobody lists (block_touch f (suc (b + k)) w) test last (was.nobody test none) in
-    let behind : AreClashesOf lists pid (block_touch f (b + suc k) w) next = subst (λ n. AreClashesOf lists pid (block_touch f n w) next) (sym e) on in
-    (all ++ next, next, record {
-      clashes = subst (λ (ts : List Touch). AreClashes lists pid ts (all ++ next)) (blocks_more f b (suc k) w) (clashes_more lists pid (touches_of_blocks f b (suc k) w) (block_touch f (b + suc k) w) all next was.clashes behind);
-      firsts = record {
-        each = λ test. none_behind (first_with test own) (first_with test next) (nobody test) ∙ ap (λ o. option_or o (first_with test next)) (was.firsts.each test) ∙ sym (first_append test all next);
-      };
-      behind = behind;
-      nobody = nobody;
-    })
+    let behind : AreClashesOf lists pid (block_touch f (b + suc k) w) next = subst (λ n. AreClashesOf lists pid (block_touch f n w) next) (sym e) on in (
+      all ++ next,
+      next,
+      record {
+        clashes = subst (λ (ts : List Touch). AreClashes lists pid ts (all ++ next)) (blocks_more f b (suc k) w) (clashes_more lists pid (touches_of_blocks f b (suc k) w) (block_touch f (b + suc k) w) all next was.clashes behind);
+        firsts = record {
+          each = λ test. none_behind (first_with test own) (first_with test next) (nobody test) ∙ ap (λ o. option_or o (first_with test next)) (was.firsts.each test) ∙ sym (first_append test all next);
+        };
+        behind = behind;
+        nobody = nobody;
+      },
+    )
 
 -- one row of blocks more, behind those that were gone over
 pub row_more : (lists : List (List Touch)) (pid f first n b k : ℕ) (w : Bool) (initial own here now_found new : List Clash) → first + n ≡ b
@@ -282,7 +288,9 @@ row_more lists pid f first n b k w initial own here now_found new at are firsts 
     let all : List Clash = row.0 in
     let is : IsFlat lists pid f b k w now_found all row.1 = row.2 in
     let both : AreClashes lists pid (touches_of_blocks f first n w ++ touches_of_blocks f b (suc k) w) (own ++ all) = clashes_append lists pid (touches_of_blocks f first n w) (touches_of_blocks f b (suc k) w) own all are is.clashes in
-    let joined : touches_of_blocks f first n w ++ touches_of_blocks f b (suc k) w ≡ touches_of_blocks f first (n + suc k) w = ap (λ a. touches_of_blocks f first n w ++ touches_of_blocks f a (suc k) w) (sym at) ∙ blocks_append f first n (suc k) w in
-    (own ++ all, subst (λ (ts : List Touch). AreClashes lists pid ts (own ++ all)) joined both,
-    subst (λ (l : List Clash). AreFirstsOf l new) (append_assoc initial own all)
-    (firsts_via ((initial ++ own) ++ all) (here ++ now_found) new (firsts_append (initial ++ own) here all now_found firsts is.firsts) noted))
+    let joined : touches_of_blocks f first n w ++ touches_of_blocks f b (suc k) w ≡ touches_of_blocks f first (n + suc k) w = ap (λ a. touches_of_blocks f first n w ++ touches_of_blocks f a (suc k) w) (sym at) ∙ blocks_append f first n (suc k) w in (
+      own ++ all,
+      subst (λ (ts : List Touch). AreClashes lists pid ts (own ++ all)) joined both,
+      subst (λ (l : List Clash). AreFirstsOf l new) (append_assoc initial own all)
+          (firsts_via ((initial ++ own) ++ all) (here ++ now_found) new (firsts_append (initial ++ own) here all now_found firsts is.firsts) noted),
+    )

@@ -1,8 +1,11 @@
 -- What the steps of a search for clashes come to.
-use Rattle.std.proofs.Common.{◌≡◌, ◌∙◌, sym, refl, ap, subst, ℕ, List, [], ◌∷◌, ◌++◌, take, Result, Ok, Err, OnOk, append_assoc}
+use Rattle.std.proofs.Common.{◌≡◌, ◌∙◌, sym, ap, subst, ℕ, true, ◌==◌, List, [], ◌∷◌, ◌++◌, length, Result, Ok, Err, OnOk, arith}
+use Rattle.std.proofs.lemmas.Bool.{eqb-true}
 use Rattle.std.proofs.lemmas.List.Concat.{flat_map-append}
 use Rattle.std.proofs.lemmas.List.{append-nil}
 use Rattle.model.specs.Steps.{Touch}
+use Rattle.records.specs.Holders.{AreHolders}
+use Rattle.records.specs.declared.mark.Mark.{Mark}
 use Rattle.touches.specs.declared.touched.Touched.{Touched}
 use Rattle.touches.specs.Expanded.{expanded, touches_of}
 use Rattle.conflict.specs.Clashing.{AreClashes, AreClashesOf}
@@ -15,6 +18,11 @@ pub own_clashes : {A E : Type 0} (r : Result A E) (lists : List (List Touch)) (p
     → OnOk r ((own : List Clash) × AreClashes lists pid (t ∷ []) own × AreFirstsOf (old ++ own) new)
 own_clashes (Ok x) lists pid t old new h = (h.0, clashes_of_one lists pid t h.0 h.1, h.2)
 own_clashes (Err e) lists pid t old new h = tt
+
+-- a touch that nobody's clashes with
+pub none_clash : (lists : List (List Touch)) (pid : ℕ) (t : Touch) (marks : List Mark) (n : ℕ) → (n == 0) ≡ true → n ≡ length marks → AreHolders lists pid t marks → AreClashesOf lists pid t []
+none_clash lists pid t [] n zero long holders = record { mine = tt; exact = λ q u. holders.exact q u; order = tt }
+none_clash lists pid t (m ∷ marks) n zero long holders = let e : n ≡ 0 = eqb-true n 0 zero in absurd (omega arith)
 
 expanded_push : (xs : List Touched) (t : Touched) → expanded (xs ++ t ∷ []) ≡ expanded xs ++ touches_of t
 expanded_push xs t = flat_map-append touches_of xs (t ∷ []) ∙ ap (λ l. expanded xs ++ l) (append-nil (touches_of t))

@@ -43,6 +43,13 @@ fn in_order(
     Ok(set)
 }
 
+/// The number of the process that a clash is with.
+fn other_of(clash: &Clash) -> u32
+    ensures { result ≡ clash.now.other }
+{
+    clash.other.0
+}
+
 /// The first clash with each process, in order.
 pub struct FirstClashes {
     heap: Heap,
@@ -99,7 +106,7 @@ impl FirstClashes {
     fn push(&mut self, clash: Clash) -> Result<(), AllocError>
         ensures { OnOk result (AreFirstsOf (self.old ++ clash ∷ []) self.new) }
     {
-        let other = clash.other.0;
+        let other = other_of(&clash);
         if self.met.contains(&other) {
             return Ok(());
         }

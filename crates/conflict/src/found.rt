@@ -10,7 +10,7 @@ ghost use Rattle.std.proofs.lemmas.Cmp.{eq_by_cmp_equiv};
 ghost use Rattle.conflict.specs.Clashing.{rank_of};
 ghost use Rattle.conflict.specs.Order.{place_of};
 
-use crate::touches::{is_same_aspect, name_of};
+use crate::aspects::{is_same_aspect, name_of};
 use ids::{Pid, Touch};
 use records::compare_touches;
 use std::cmp::Ordering;

@@ -4,9 +4,9 @@
 //! write, or where one reads the names of a directory and the other writes an entry of it.
 #![tactic(auto)]
 
+mod aspects;
 mod find;
 mod found;
-mod touches;
 
 pub use find::{FirstClashes, first_clashes};
 pub use found::Clash;

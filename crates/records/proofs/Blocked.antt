@@ -14,7 +14,7 @@ use Rattle.records.specs.Holders.{has_mark, AreEachOnce, AreHolders}
 use Rattle.records.specs.Index.{has}
 use Rattle.records.specs.Marks.{mark_of}
 use Rattle.records.specs.Ranges.{touch_on, marks_of}
-use Rattle.records.specs.Rows.{Places, row_at, has_block, is_own, uses, uses_in, users_of, users_in, IsSingle, is_block_aspect, all_without_blocks, AreRowsOf}
+use Rattle.records.specs.Rows.{Places, row_at, has_block, uses, uses_in, users_of, users_in, IsSingle, is_block_aspect, all_without_blocks, AreRowsOf}
 use Rattle.records.specs.Touches.{touched_by}
 use Rattle.records.specs.declared.mark.Mark.{Mark}
 use Rattle.records.specs.declared.row.Holding.{Holding}

@@ -1,7 +1,7 @@
 -- The rows and the journals, as a process has entered blocks at the end of its journal.
-use Rattle.std.proofs.Common.{◌≡◌, ◌∙◌, sym, refl, ap, subst, ℕ, suc, ◌+◌, ◌-◌, ◌<◌, ◌≤◌, ◌⊎◌, inl, inr, Bool, true, false, ◌&&◌, ◌||◌, ◌==◌, Option, Some, None, List, [], ◌∷◌, ◌++◌, map, filter, if◌then◌else◌, arith}
+use Rattle.std.proofs.Common.{◌≡◌, ◌∙◌, sym, refl, ap, ℕ, suc, ◌<◌, ◌≤◌, ◌⊎◌, inl, inr, Bool, true, false, ◌&&◌, ◌||◌, ◌==◌, Option, Some, None, List, [], map, filter, if◌then◌else◌, arith}
 use Rattle.std.specs.Prelude.{nat_le}
-use Rattle.std.proofs.lemmas.Bool.{false≢true, and_parts, eqb-true, eq-eqb, ne_eqb}
+use Rattle.std.proofs.lemmas.Bool.{and_parts, eqb-true, ne_eqb}
 use Rattle.std.proofs.lemmas.Bool.Decides.{nat_tests}
 use Rattle.model.specs.Aspects.{Block}
 use Rattle.model.specs.Steps.{Touch}
@@ -10,7 +10,7 @@ use Rattle.touches.proofs.Runs.{block_touch}
 use Rattle.records.specs.declared.row.Holding.{Holding}
 use Rattle.records.specs.Runs.{GoesOnBy}
 use Rattle.records.specs.Touches.{touched_by}
-use Rattle.records.specs.Rows.{Places, row_at, has_block, uses, uses_in, uses_at, ended, with_use, IsStartOf, IsRowOf, HaveNoStart, is_user, is_within, IsSingle, Puts, Opens, IsEntered, Enters, AreRowsOf}
+use Rattle.records.specs.Rows.{Places, row_at, has_block, uses, uses_in, uses_at, ended, with_use, IsStartOf, IsRowOf, HaveNoStart, is_user, is_within, Puts, Opens, IsEntered, Enters, AreRowsOf}
 use Rattle.records.proofs.Entering.{put_at, enters_row, copied, cut_off, opened}
 use Rattle.records.proofs.Rowed.{row_along, row_from_start, row_of_start, row_none, uses_less}
 use Rattle.records.proofs.Structure.{filter_single}

@@ -1,5 +1,5 @@
 -- Who uses which block, as a process enters the blocks of a row, and as a row is split.
-use Rattle.std.proofs.Common.{◌≡◌, ◌∙◌, sym, refl, ap, subst, ℕ, zero, suc, ◌+◌, ◌-◌, ◌<◌, ◌≤◌, ◌⊎◌, inl, inr, Bool, true, false, not, ◌&&◌, ◌||◌, ◌==◌, Option, Some, None, List, [], ◌∷◌, map, filter, if◌then◌else◌, arith}
+use Rattle.std.proofs.Common.{◌≡◌, ◌∙◌, sym, refl, ap, subst, ℕ, zero, suc, ◌+◌, ◌-◌, ◌<◌, ◌≤◌, ◌⊎◌, inl, inr, Bool, true, false, ◌&&◌, ◌||◌, ◌==◌, Option, Some, None, List, [], map, filter, if◌then◌else◌, arith}
 use Rattle.std.specs.Prelude.{nat_le}
 use Rattle.std.specs.Option.{option_or}
 use Rattle.std.proofs.lemmas.Bool.{false≢true, cases_eq, eq-eqb, ne_eqb, and_parts, eqb-true}
@@ -7,7 +7,7 @@ use Rattle.std.proofs.lemmas.Bool.Decides.{nat_tests}
 use Rattle.records.specs.Groups.{alike}
 use Rattle.records.specs.declared.row.Holding.{Holding}
 use Rattle.records.specs.Rows.{Places, row_at, has_block, uses, uses_in, uses_at, ended, with_use, is_user, is_within, IsSingle, Puts, Enters, HaveNoStart}
-use Rattle.records.proofs.Rowed.{row_before, uses_less}
+use Rattle.records.proofs.Rowed.{uses_less}
 use Rattle.records.proofs.Using.{with_other, with_own, from_uses, ended_uses}
 
 -- what a change of one row leaves

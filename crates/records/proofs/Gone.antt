@@ -1,5 +1,5 @@
 -- The rows and the journals are as they should be, as a process leaves blocks that it touched last.
-use Rattle.std.proofs.Common.{◌≡◌, ◌∙◌, sym, refl, ap, subst, ℕ, zero, suc, ◌+◌, ◌-◌, ◌<◌, ◌≤◌, ◌⊎◌, inl, inr, Bool, true, false, not, ◌&&◌, ◌||◌, ◌==◌, Option, Some, None, List, [], ◌∷◌, ◌++◌, length, set, map, filter, if◌then◌else◌, append_assoc, arith}
+use Rattle.std.proofs.Common.{◌≡◌, ◌∙◌, sym, refl, ap, subst, ℕ, suc, ◌+◌, ◌-◌, ◌<◌, ◌≤◌, ◌⊎◌, inl, inr, Bool, true, false, not, ◌&&◌, ◌||◌, ◌==◌, Option, Some, None, List, [], ◌∷◌, ◌++◌, length, set, map, if◌then◌else◌, append_assoc, arith}
 use Rattle.std.specs.Prelude.{nat_le, nat_lt}
 use Rattle.std.specs.Option.{option_map}
 use Rattle.std.specs.List.{AllByRecursion, list_any}
@@ -23,7 +23,7 @@ use Rattle.records.proofs.Leaving.{AreLeft, row_start, leaves_rows}
 use Rattle.records.proofs.Shaped.{all_passed}
 use Rattle.records.proofs.Structure.{all_map, all_to, all_filter, filter_single, ended_less}
 use Rattle.records.proofs.Suffix.{once_before}
-use Rattle.records.proofs.Together.{StandTogether, stand_in_part, stand_before, nothing_behind, has_inside}
+use Rattle.records.proofs.Together.{StandTogether, stand_in_part, stand_before, nothing_behind}
 use Rattle.records.proofs.Using.{alike_is, own_as_ended}
 
 -- a holding of a process that has a block

@@ -1,5 +1,5 @@
 -- The rows and the journals are as they should be, as a process has entered blocks that came behind its others.
-use Rattle.std.proofs.Common.{◌≡◌, ◌∙◌, sym, refl, ap, subst, ℕ, suc, ◌+◌, ◌-◌, ◌<◌, ◌≤◌, ◌⊎◌, inl, inr, Bool, true, false, ◌&&◌, ◌||◌, ◌==◌, Option, Some, None, List, [], ◌∷◌, ◌++◌, length, set, map, filter, if◌then◌else◌, arith}
+use Rattle.std.proofs.Common.{◌≡◌, ◌∙◌, sym, refl, ap, subst, ℕ, suc, ◌+◌, ◌-◌, ◌<◌, ◌≤◌, ◌⊎◌, inl, inr, Bool, true, false, ◌&&◌, ◌==◌, Option, Some, None, List, [], ◌∷◌, ◌++◌, length, set, map, filter, if◌then◌else◌, arith}
 use Rattle.std.specs.Prelude.{nat_le}
 use Rattle.std.specs.List.{AllByRecursion, list_any}
 use Rattle.std.proofs.lemmas.Bool.{false≢true, cases_eq, and_parts, eqb-true, eq-eqb, ne_eqb}
@@ -14,7 +14,7 @@ use Rattle.records.specs.declared.row.Holding.{Holding}
 use Rattle.records.specs.Groups.{alike}
 use Rattle.records.specs.Runs.{GoesOnBy}
 use Rattle.records.specs.Touches.{touched_by, distinct}
-use Rattle.records.specs.Rows.{Places, row_at, has_block, is_own, uses, uses_in, uses_at, ended, with_use, IsStartOf, IsRowOf, HaveNoStart, IsSingle, Puts, Opens, IsEntered, StandsIn, AreRowsOf}
+use Rattle.records.specs.Rows.{Places, row_at, has_block, is_own, uses, uses_in, uses_at, ended, with_use, IsStartOf, IsRowOf, HaveNoStart, Puts, Opens, IsEntered, StandsIn, AreRowsOf}
 use Rattle.records.proofs.Entered.{put, used_last, entered_uses}
 use Rattle.records.proofs.Journaled.{uses_entered}
 use Rattle.records.proofs.Rowed.{row_along, row_of_start, uses_less}

@@ -1,10 +1,10 @@
 -- What functions over the map of rows come to, in words of rows.
-use Rattle.std.proofs.Common.{◌≡◌, ◌∙◌, sym, refl, ap, subst, ℕ, suc, ◌<◌, ◌≤◌, ◌+◌, ◌⊎◌, inl, inr, Bool, true, false, ◌&&◌, ◌||◌, ◌==◌, Option, Some, None, List, [], ◌∷◌, if◌then◌else◌, arith}
+use Rattle.std.proofs.Common.{◌≡◌, ◌∙◌, sym, refl, ap, subst, ℕ, suc, ◌<◌, ◌≤◌, ◌+◌, ◌⊎◌, inl, inr, Bool, true, false, ◌&&◌, ◌==◌, Option, Some, None, List, if◌then◌else◌, arith}
 use Rattle.std.specs.Prelude.{nat_le, nat_lt, IfSome, IfNone}
 use Rattle.std.proofs.lemmas.Bool.{cases_eq, eq-eqb, ne_eqb}
 use Rattle.std.proofs.lemmas.Bool.Decides.{nat_tests}
 use Rattle.records.specs.declared.row.Holding.{Holding}
-use Rattle.records.specs.Rows.{Places, row_at, uses, uses_in, uses_at, with_use, left_of, is_within, IsStartOf, IsFirstStart, HaveNoStart, Puts, Opens, IsEntered, AreOut}
+use Rattle.records.specs.Rows.{Places, row_at, uses, uses_in, uses_at, with_use, left_of, IsStartOf, IsFirstStart, HaveNoStart, Puts, Opens, IsEntered, AreOut}
 use Rattle.records.proofs.Entering.{put_at, put_off, put_other}
 use Rattle.records.proofs.Rowed.{row_along}
 

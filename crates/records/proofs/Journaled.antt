@@ -1,7 +1,7 @@
 -- The journals and who uses which block, as blocks are added to the end of a journal or taken from there.
-use Rattle.std.proofs.Common.{◌≡◌, ◌≢◌, ◌∙◌, sym, refl, ap, subst, ℕ, suc, ◌+◌, ◌-◌, ◌<◌, ◌≤◌, inl, inr, Bool, true, false, not, ◌&&◌, ◌||◌, ◌==◌, List, [], ◌∷◌, ◌++◌, length, set, arith}
+use Rattle.std.proofs.Common.{◌≡◌, ◌∙◌, sym, refl, ap, ℕ, ◌+◌, ◌-◌, ◌<◌, ◌≤◌, inl, inr, Bool, true, false, not, ◌&&◌, ◌||◌, ◌==◌, List, [], ◌++◌, length, set, arith}
 use Rattle.std.specs.Prelude.{nat_le, nat_lt, if◌then◌else◌}
-use Rattle.std.proofs.lemmas.Bool.{cases_eq, eq-eqb, ne_eqb, false≢true}
+use Rattle.std.proofs.lemmas.Bool.{cases_eq, eq-eqb, ne_eqb}
 use Rattle.std.proofs.lemmas.Bool.Decides.{nat_tests}
 use Rattle.std.proofs.lemmas.List.{get_or-set_same, get_or-set_other}
 use Rattle.std.proofs.lemmas.List.Folds.{list_any-append}
@@ -11,7 +11,7 @@ use Rattle.model.specs.Clashes.{same_aspect, has_touch}
 use Rattle.touches.specs.Expanded.{touches_of_blocks}
 use Rattle.records.specs.Groups.{alike}
 use Rattle.records.specs.Touches.{touched_by}
-use Rattle.records.specs.Rows.{Places, uses_at, is_user, is_within, Enters, Leaves}
+use Rattle.records.specs.Rows.{Places, uses_at, is_within, Enters, Leaves}
 use Rattle.records.proofs.Suffix.{has_blocks}
 
 -- each use is in a journal, and each touch of a block in a journal is a use

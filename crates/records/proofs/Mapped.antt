@@ -1,6 +1,6 @@
 -- Changes of the map of rows, as changes of one row.
-use Rattle.std.proofs.Common.{◌≡◌, ◌∙◌, sym, refl, ap, subst, ℕ, suc, ◌<◌, ◌≤◌, ◌+◌, ◌⊎◌, inl, inr, Bool, true, false, cond, ◌&&◌, ◌||◌, ◌==◌, Option, Some, None, Result, Ok, Err, OnOk, OnErr, IfOk, List, [], ◌∷◌, ◌++◌, map, filter, if◌then◌else◌, arith}
-use Rattle.std.specs.Option.{is_some, IsSome, option_map}
+use Rattle.std.proofs.Common.{◌≡◌, ◌∙◌, sym, refl, ap, subst, ℕ, ◌<◌, Bool, true, false, cond, ◌&&◌, ◌==◌, Option, Some, None, List, [], ◌∷◌, ◌++◌, map, filter, if◌then◌else◌, arith}
+use Rattle.std.specs.Option.{option_map}
 use Rattle.std.specs.Ordering.{is_eq, nat_cmp, ordering_then}
 use Rattle.std.specs.BTreeMap as tree
 use Rattle.std.specs.Map.{lookup}
@@ -9,12 +9,12 @@ use Rattle.std.specs.declared.cmp.Ordering.{Ordering}
 use Rattle.std.specs.declared.cmp.Ordering.TheVariants.{Less, Equal, Greater}
 use Rattle.std.specs.declared.ops.Bound.TheVariants.{Included}
 use Rattle.std.specs.Cmp.{nat_cmp_total, tied_itself}
-use Rattle.std.proofs.lemmas.Bool.{false≢true, cases_eq, eqb-true, eq-eqb, ne_eqb, and_parts}
+use Rattle.std.proofs.lemmas.Bool.{false≢true, eqb-true, eq-eqb, and_parts}
 use Rattle.model.specs.FiniteMap.{nat_cmp-IsAntisymmetric}
 use Rattle.model.proofs.Laws.{tie}
 use Rattle.records.specs.declared.row.Holding.{Holding}
 use Rattle.records.specs.declared.row.Row.{Row}
-use Rattle.records.specs.Rows.{Places, place_cmp, places_of, holdings_of, row_at, has_block, ended, with_use, without_use, some_if, is_nobody, is_deserted, left_of, IsStartOf, Puts, SamePlaces, Opens}
+use Rattle.records.specs.Rows.{Places, place_cmp, places_of, holdings_of, row_at, has_block, ended, with_use, without_use, some_if, is_nobody, is_deserted, left_of, Puts, SamePlaces, Opens}
 use Rattle.records.proofs.Entering.{put_at, put_off}
 use Rattle.records.proofs.Places.{RowMap, last_start, last_there}
 use Rattle.records.proofs.Rowed.{row_of_start}

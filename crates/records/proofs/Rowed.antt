@@ -1,14 +1,10 @@
 -- The row of a block, by where rows start, and who uses a block by it.
-use Rattle.std.proofs.Common.{◌≡◌, ◌∙◌, sym, refl, ap, subst, ℕ, zero, suc, ◌+◌, ◌-◌, ◌<◌, ◌≤◌, Bool, true, false, ◌&&◌, ◌||◌, ◌==◌, Option, Some, None, List, [], ◌∷◌, if◌then◌else◌, arith}
-use Rattle.std.specs.Prelude.{nat_le}
+use Rattle.std.proofs.Common.{◌≡◌, ◌∙◌, sym, refl, ap, ℕ, zero, suc, ◌+◌, ◌-◌, ◌<◌, ◌≤◌, Bool, true, false, ◌&&◌, ◌||◌, ◌==◌, Option, Some, None, List, [], ◌∷◌, if◌then◌else◌, arith}
 use Rattle.std.specs.Option.{option_or}
 use Rattle.std.proofs.lemmas.Bool.Decides.{nat_tests}
-use Rattle.model.specs.Aspects.{Block}
 use Rattle.model.specs.Steps.{Touch}
-use Rattle.model.specs.Clashes.{has_touch}
 use Rattle.records.specs.Groups.{among, alike}
 use Rattle.records.specs.Holders.{GoesOn}
-use Rattle.records.specs.Touches.{touched_by}
 use Rattle.records.specs.declared.row.Holding.{Holding}
 use Rattle.records.specs.Rows.{Places, row_at, is_own, has_block, uses, uses_in, users_of, IsStartOf, HaveNoStart, AreRowsOf}
 

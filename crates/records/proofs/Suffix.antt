@@ -1,12 +1,12 @@
 -- A list in which each touch stands once, as several are added at its end or taken from there.
-use Rattle.std.proofs.Common.{◌≡◌, ◌∙◌, sym, refl, ap, subst, ℕ, zero, suc, ◌+◌, ◌<◌, ◌≤◌, inl, inr, Bool, true, false, not, ◌&&◌, ◌||◌, ◌==◌, List, [], ◌∷◌, ◌++◌, length, take, if◌then◌else◌, append_assoc, arith}
+use Rattle.std.proofs.Common.{◌≡◌, ◌∙◌, sym, refl, ap, ℕ, zero, suc, ◌+◌, ◌<◌, ◌≤◌, inl, inr, Bool, true, false, not, ◌&&◌, ◌||◌, ◌==◌, List, [], ◌∷◌, ◌++◌, length, take, if◌then◌else◌, append_assoc, arith}
 use Rattle.std.specs.Prelude.{nat_le, nat_lt}
 use Rattle.std.proofs.lemmas.Bool.{cases_eq, eq-eqb, ne_eqb}
 use Rattle.std.proofs.lemmas.Bool.Decides.{nat_tests}
 use Rattle.std.proofs.lemmas.List.{append-nil, length-append, take_at}
 use Rattle.model.specs.Aspects.{Block}
 use Rattle.model.specs.Steps.{Touch}
-use Rattle.model.specs.Clashes.{same_aspect, has_touch}
+use Rattle.model.specs.Clashes.{has_touch}
 use Rattle.touches.specs.Expanded.{touches_of_blocks}
 use Rattle.touches.proofs.Runs.{block_touch}
 use Rattle.records.specs.Codes.{is_touch}

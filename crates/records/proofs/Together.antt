@@ -3,16 +3,13 @@ use Rattle.std.proofs.Common.{◌≡◌, ◌∙◌, sym, refl, ap, ℕ, suc, ◌
 use Rattle.std.proofs.lemmas.Bool.{false≢true}
 use Rattle.std.proofs.lemmas.List.{append-nil, same_from_push}
 use Rattle.std.proofs.lemmas.List.Folds.{list_any-append}
-use Rattle.model.specs.Aspects.{Block}
 use Rattle.model.specs.Steps.{Touch}
 use Rattle.model.specs.Clashes.{same_aspect}
 use Rattle.touches.specs.Expanded.{touches_of_blocks}
 use Rattle.touches.proofs.Runs.{block_touch, blocks_more, blocks_append}
-use Rattle.records.specs.Codes.{is_touch}
 use Rattle.records.specs.Index.{has}
-use Rattle.records.specs.Touches.{with_touch, with_touches, distinct}
+use Rattle.records.specs.Touches.{distinct}
 use Rattle.records.proofs.Exact.{test_is, touch_itself}
-use Rattle.records.proofs.Indexing.{has_push}
 use Rattle.records.proofs.Suffix.{AreNew, once_before}
 
 -- so many blocks of a file stand there from one on, one behind the other

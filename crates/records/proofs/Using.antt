@@ -1,12 +1,12 @@
 -- Who uses a block by the holdings of a row, as one is put in or taken out, or as they end before a block.
-use Rattle.std.proofs.Common.{◌≡◌, ◌∙◌, sym, refl, ap, subst, ℕ, ◌-◌, ◌<◌, ◌≤◌, Bool, true, false, not, ◌&&◌, ◌||◌, ◌==◌, List, [], ◌∷◌, map, filter, if◌then◌else◌, arith}
+use Rattle.std.proofs.Common.{◌≡◌, ◌∙◌, sym, refl, ap, ℕ, ◌-◌, ◌<◌, ◌≤◌, Bool, true, false, not, ◌&&◌, ◌||◌, ◌==◌, List, [], ◌∷◌, map, filter, if◌then◌else◌, arith}
 use Rattle.std.specs.Prelude.{nat_le}
 use Rattle.std.specs.List.{list_any}
 use Rattle.std.proofs.lemmas.Bool.{false≢true, and_parts, eqb-true, eq-eqb}
 use Rattle.std.proofs.lemmas.Bool.Decides.{nat_tests}
 use Rattle.records.specs.Groups.{alike}
 use Rattle.records.specs.declared.row.Holding.{Holding}
-use Rattle.records.specs.Rows.{is_own, has_block, uses, ended, own_ended, with_use, without_use, is_user, IsSingle}
+use Rattle.records.specs.Rows.{is_own, has_block, uses, ended, with_use, without_use, is_user, IsSingle}
 
 pub alike_is : (v w : Bool) → alike v w ≡ true → v ≡ w
 alike_is true true h = refl

@@ -1,6 +1,5 @@
 use Rattle.std.proofs.Common.{◌∙◌, ap, sym, take, ◌++◌, ◌∷◌, []}
 use Rattle.std.proofs.lemmas.List.{take_more}
-use Rattle.conflict.proofs.Firsts.{no_first_clashes}
 use Rattle.conflict.proofs.Steps.{entry_more}
 use Rattle.conflict.proofs.find.first_clashes.Goals as goal
 

@@ -1,6 +1,4 @@
-use Rattle.std.proofs.Common.{◌≡◌, ◌≤◌, ◌<◌, ◌-◌, ◌∙◌, ap, sym, subst, length, List, vec_len, arith}
-use Rattle.std.specs.Prelude.{IfSome}
-use Rattle.touches.specs.declared.touched.Touched.{Touched}
+use Rattle.std.proofs.Common.{◌≡◌, ◌-◌, ◌∙◌, ap, length, vec_len, arith}
 use Rattle.touches.specs.declared.touched.Touched.TheVariants.{Blocks}
 use Rattle.touches.specs.Expanded.{touches_of}
 use Rattle.touches.proofs.Runs.{length-blocks}

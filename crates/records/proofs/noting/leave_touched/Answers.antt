@@ -1,4 +1,4 @@
-use Rattle.std.proofs.Common.{◌≡◌, ◌<◌, ◌∙◌, sym, ap, subst, length, List, ◌++◌, arith}
+use Rattle.std.proofs.Common.{◌≡◌, ◌∙◌, sym, ap, subst, length, List, ◌++◌, arith}
 use Rattle.model.specs.Steps.{Touch}
 use Rattle.touches.specs.declared.touched.Touched.{Touched}
 use Rattle.touches.specs.Expanded.{touches_of}

@@ -1,7 +1,5 @@
-use Rattle.std.proofs.Common.{◌≡◌, ◌∙◌, sym, ap, subst, List, false, true}
+use Rattle.std.proofs.Common.{sym, subst, List, false, true}
 use Rattle.model.specs.Steps.{Touch}
-use Rattle.records.specs.Index.{has}
-use Rattle.records.specs.Marks.{mark_of}
 use Rattle.records.specs.Rows.{all_without_blocks, AreRowsOf}
 use Rattle.records.specs.Touches.{touched_by}
 use Rattle.records.proofs.Indexing.{indexed_again, noted_again, noted_new, not_false, not_true}

@@ -1,5 +1,4 @@
 use Rattle.std.proofs.Common.{refl, inl, inr, arith}
-use Rattle.records.specs.Rows.{places_of}
 use Rattle.records.proofs.rows.end_before.Goals as goal
 
 pub returns-then-block-eq0 : goal.returns-then-block-eq0

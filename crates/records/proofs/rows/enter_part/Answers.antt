@@ -1,4 +1,3 @@
-use Rattle.std.proofs.Common.{◌≡◌, None, Some, arith}
 use Rattle.records.proofs.Held.{alone_entered}
 use Rattle.records.specs.Rows.{places_of}
 use Rattle.records.proofs.Outcomes.{ok_so}

@@ -1,5 +1,5 @@
-use Rattle.std.proofs.Common.{◌≡◌, ◌∙◌, sym, ap, Some, None}
-use Rattle.std.specs.Option.{is_some, option_map}
+use Rattle.std.proofs.Common.{◌≡◌, ◌∙◌, sym, ap, Some}
+use Rattle.std.specs.Option.{is_some}
 use Rattle.std.specs.BTreeMap as tree
 use Rattle.records.specs.Rows.{place_cmp, places_of, holdings_of, is_deserted, without_use}
 use Rattle.records.proofs.Entering.{put_at}

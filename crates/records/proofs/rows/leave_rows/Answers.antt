@@ -1,4 +1,4 @@
-use Rattle.std.proofs.Common.{refl, arith}
+use Rattle.std.proofs.Common.{arith}
 use Rattle.records.specs.Rows.{places_of}
 use Rattle.records.proofs.Held.{out_none, out_more, out_all, out_last}
 use Rattle.records.proofs.rows.leave_rows.Goals as goal

@@ -1,5 +1,5 @@
-use Rattle.std.proofs.Common.{◌≡◌, ◌≤◌, ◌-◌, ℕ, if◌then◌else◌}
-use Rattle.records.specs.Rows.{places_of, left_of}
+use Rattle.std.proofs.Common.{◌≤◌, ◌-◌}
+use Rattle.records.specs.Rows.{places_of}
 use Rattle.records.proofs.Held.{AreOutTo}
 use Rattle.records.proofs.rows.leave_rows.Given as goal
 

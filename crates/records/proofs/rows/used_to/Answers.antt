@@ -1,4 +1,4 @@
-use Rattle.std.proofs.Common.{◌≡◌, ◌∙◌, sym, ap, Option, Some, None, List}
+use Rattle.std.proofs.Common.{sym, ap, Option, List}
 use Rattle.records.specs.Rows.{places_of, row_at, uses_in}
 use Rattle.records.specs.declared.row.Holding.{Holding}
 use Rattle.records.proofs.Held.{some_uses, none_uses}

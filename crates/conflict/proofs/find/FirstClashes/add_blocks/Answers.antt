@@ -1,5 +1,4 @@
-use Rattle.std.proofs.Common.{◌≡◌, ◌+◌, ◌-◌, suc, [], refl, sym, subst, List, arith}
-use Rattle.model.specs.Steps.{Touch}
+use Rattle.std.proofs.Common.{◌≡◌, ◌+◌, ◌-◌, suc, [], refl, sym, subst, arith}
 use Rattle.touches.specs.Expanded.{touches_of_blocks}
 use Rattle.conflict.specs.Clashing.{AreClashes}
 use Rattle.conflict.proofs.Firsts.{firsts_none}

@@ -1,9 +1,8 @@
-use Rattle.std.proofs.Common.{◌≡◌, ◌≤◌, ◌+◌, ◌∙◌, sym, ap, subst, ◌++◌, List, length, arith}
-use Rattle.model.specs.Steps.{Touch}
+use Rattle.std.proofs.Common.{◌≡◌, ◌∙◌, sym, ap, subst, ◌++◌, List, length, arith}
 use Rattle.touches.specs.declared.touched.Touched.{Touched}
 use Rattle.touches.specs.Expanded.{expanded, touches_of}
 use Rattle.records.specs.Runs.{HaveTouches}
-use Rattle.records.specs.Touches.{with_touches, distinct}
+use Rattle.records.specs.Touches.{distinct}
 use Rattle.records.proofs.Lasts.{taken_count, uncounted}
 use Rattle.records.proofs.Suffix.{once_before}
 use Rattle.records.proofs.journal.Journal.pop.Goals as goal

@@ -1,4 +1,4 @@
-use Rattle.std.proofs.Common.{◌≡◌, ◌<◌, ◌≤◌, [], refl, length, arith}
+use Rattle.std.proofs.Common.{◌≡◌, ◌<◌, [], refl, length, arith}
 use Rattle.records.specs.Touches.{touched_by}
 use Rattle.records.proofs.Active.{one_if, active_none, some_as_one, own_active}
 use Rattle.records.proofs.journals.Journals.clear.Goals as goal

@@ -1,4 +1,4 @@
-use Rattle.std.proofs.Common.{◌≡◌, ◌≤◌, ◌<◌, ◌+◌, length, arith}
+use Rattle.std.proofs.Common.{◌≡◌, ◌<◌, ◌+◌, length, arith}
 use Rattle.records.specs.Touches.{touched_by}
 use Rattle.records.proofs.Active.{one_if, active_less, none_or_one, one_of, own_active}
 use Rattle.records.proofs.journals.Journals.pop.Goals as goal

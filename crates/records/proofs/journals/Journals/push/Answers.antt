@@ -1,4 +1,4 @@
-use Rattle.std.proofs.Common.{◌≡◌, ◌≤◌, ◌<◌, ◌+◌, ◌^◌, ◌++◌, ap, length, vec_len, vec_capacity, arith}
+use Rattle.std.proofs.Common.{◌≡◌, ◌≤◌, ◌<◌, ◌+◌, ◌^◌, ◌++◌, length, vec_len, vec_capacity, arith}
 use Rattle.std.proofs.lemmas.List.{length-append}
 use Rattle.touches.specs.Expanded.{touches_of}
 use Rattle.records.specs.Active.{active_in}

@@ -1,5 +1,4 @@
 use Rattle.std.proofs.Common.{ℕ, suc, ◌<◌, ◌≤◌, arith}
-use Rattle.std.specs.Prelude.{IfSome, IfNone}
 use Rattle.records.specs.Holders.{GoesOn}
 use Rattle.records.specs.Rows.{places_of, IsFirstStart, HaveNoStart}
 use Rattle.records.proofs.Outcomes.{some_so, none_so}

@@ -1,4 +1,4 @@
-use Rattle.std.proofs.Common.{not, rules}
+use Rattle.std.proofs.Common.{rules}
 use Rattle.records.proofs.Groups.{left_by_test}
 use Rattle.records.proofs.row.Row.leave.Goals as goal
 

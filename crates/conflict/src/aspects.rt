@@ -1,4 +1,4 @@
-// The parts of touches.
+// The parts of aspects.
 ghost use Rattle.std.specs.Prelude.{◌≡◌};
 ghost use Rattle.conflict.specs.Clashing.{name_of};
 ghost use Rattle.model.specs.Clashes.{same_aspect};
