@@ -56,8 +56,8 @@ pub fn attr_of(stat: &Stat, times: Times) -> Attr
 {
     Attr {
         inode: (stat.num.0 as u64).saturating_add(1),
-        size: u64::from(stat.size),
-        blocks: (u64::from(stat.size) + BLOCK - 1) / BLOCK,
+        size: stat.size,
+        blocks: stat.size.div_ceil(BLOCK),
         accessed: times.accessed,
         modified: times.modified,
         changed: times.changed,
