@@ -3,4 +3,3 @@ pub mod Frees
 pub mod Blocks
 pub mod Ends
 pub mod Seeks
-pub mod Offsets
