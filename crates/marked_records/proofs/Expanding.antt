@@ -42,7 +42,7 @@ blocks_mark d f a n w = held_equal _ _ (blocks_unread d f a n w) (blocks_unchang
 marks_append : (d : ℕ) (ts us : List Touch) → marks_at d (ts ++ us) ≡ joined (marks_at d ts) (marks_at d us)
 marks_append d ts us = held_equal _ _ (list_any-append (λ t. reads_names d t.aspect) ts us) (list_any-append (λ t. changes_names d t.aspect t.write) ts us)
 
-or_none : (b : Bool) → (b || false) ≡ b
+pub or_none : (b : Bool) → (b || false) ≡ b
 or_none true = refl
 or_none false = refl
 
