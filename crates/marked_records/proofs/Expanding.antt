@@ -189,7 +189,7 @@ module _ (d : ℕ) (xs : List Touched) (i : ℕ) (x : Touched) (count left n : �
   pub step_some : 0 < left - n → (left - n) + length (expanded (take (i + 1) xs)) ≡ count
   step_some more =
       let e : length (expanded (take (i + 1) xs)) ≡ length (expanded (take i xs)) + length (touches_of x) =
-          ap (λ l. length (expanded l)) take_is ∙ ap length (expanded_append (take i xs) (x ∷ []) ∙ ap (λ l. expanded (take i xs) ++ l) (append-nil (touches_of x))) ∙ length-append (expanded (take i xs)) (touches_of x) in
+      ap (λ l. length (expanded l)) take_is ∙ ap length (expanded_append (take i xs) (x ∷ []) ∙ ap (λ l. expanded (take i xs) ++ l) (append-nil (touches_of x))) ∙ length-append (expanded (take i xs)) (touches_of x) in
       omega arith
 
 -- and all entries
