@@ -85,10 +85,6 @@ firsts_more lists pid ts us found own new before are noted = (
   firsts_via (before.0 ++ own) (found ++ own) new (firsts_append before.0 found own own before.2 (same_firsts own)) noted,
 )
 
--- and where these have none
-pub firsts_same : (lists : List (List Touch)) (pid : ℕ) (ts us : List Touch) (found : List Clash) → AreFirstClashes lists pid ts found → AreClashes lists pid us [] → AreFirstClashes lists pid (ts ++ us) found
-firsts_same lists pid ts us found before are = firsts_more lists pid ts us found [] found before are (subst (λ (l : List Clash). AreFirstsOf l found) (sym (append-nil found)) (same_firsts found))
-
 -- all that was left to be gone over is noted
 pub firsts_end : (old new it keys left : List Clash) → it ≡ keys → left ≡ [] → AreFirstsOf (old ++ it) (new ++ left) → AreFirstsOf (old ++ keys) new
 firsts_end old new it keys left is none first =
@@ -97,9 +93,6 @@ firsts_end old new it keys left is none first =
 -- where there is nothing to be noted
 pub firsts_none : (found : List Clash) → AreFirstsOf (found ++ []) found
 firsts_none found = subst (λ (l : List Clash). AreFirstsOf l found) (sym (append-nil found)) (same_firsts found)
-
-pub no_first_clashes : (lists : List (List Touch)) (pid : ℕ) → AreFirstClashes lists pid [] []
-no_first_clashes lists pid = ([], refl, same_firsts [])
 
 -- who was met still is, and so is the process of what is noted
 or_right : (a b : Bool) → b ≡ true → (a || b) ≡ true

@@ -1,8 +1,8 @@
 -- A look at the names of a directory of which no other process writes an entry clashes with nothing.
-use Rattle.std.proofs.Common.{◌≡◌, ◌≢◌, ℕ, ◌<◌, refl, sym, ◌∙◌, ap, subst, true, false, Bool, List, [], ◌∷◌, ◌++◌, ◌+◌, ◌-◌, take, drop, drop-cons, get_or, length, arith, inl, inr, append_assoc}
-use Rattle.std.specs.Prelude.{◌||◌, ◌&&◌, ◌==◌, not, slice_range, if◌then◌else◌}
+use Rattle.std.proofs.Common.{◌≡◌, ◌≢◌, ℕ, refl, sym, ◌∙◌, ap, subst, true, false, Bool, List, [], ◌∷◌, length, inl, inr}
+use Rattle.std.specs.Prelude.{◌||◌, ◌&&◌, ◌==◌, not, if◌then◌else◌}
 use Rattle.std.proofs.lemmas.Bool.{cases_lt, cases_eq, eq-eqb, eqb-true, or_cases, or_left, or_right, and_parts, false≢true, false_from_ne_true, not-true, not-false}
-use Rattle.std.proofs.lemmas.List.{get_or_default, get_or_past, take_more}
+use Rattle.std.proofs.lemmas.List.{get_or_past}
 use Rattle.model.specs.Aspects.{Aspect, Entry, Names, Size, Block, Links, Ends, Offset, Front, Back}
 use Rattle.model.specs.Aspects.{Target, Rights}
 use Rattle.model.specs.Steps.{Touch}
@@ -142,35 +142,6 @@ module _ (lists : List (List Touch)) (pid : ℕ) (idle : (q : ℕ) → q ≢ pid
   pub clashes_alone : (ts : List Touch) (found : List Clash) → found ≡ [] → AreClashes lists pid ts found
   clashes_alone ts found none = subst (λ (x : List Clash). AreClashes lists pid ts x) (sym none) (alone_by ts)
 
--- clashes of some touches, and of those that come after them
-pub clashes_join : (lists : List (List Touch)) (pid : ℕ) (ts us : List Touch) (f g : List Clash) → AreClashes lists pid ts f → AreClashes lists pid us g → AreClashes lists pid (ts ++ us) (f ++ g)
-clashes_join lists pid [] us f g are next = subst (λ (x : List Clash). AreClashes lists pid us x) (sym (ap (λ x. x ++ g) are)) next
-clashes_join lists pid (t ∷ ts) us f g are next = (are.0, are.1 ++ g, ap (λ x. x ++ g) are.2 ∙ append_assoc are.0 are.1 g, are.3, clashes_join lists pid ts us are.1 g are.4 next)
-
-one_slice : (ts : List Touch) (i : ℕ) (t : Touch) → i < length ts → t ≡ get_or ts i t → slice_range ts i (i + 1) ≡ t ∷ []
-one_slice ts i t within is =
-    let e : (i + 1) - i ≡ 1 = omega arith in
-    ap (λ n. take n (drop i ts)) e ∙ ap (take 1) (drop-cons ts i t within) ∙ ap (λ u. u ∷ []) (sym is)
-
--- the clashes of one touch, asked for by themselves
-pub asked_alone : (lists : List (List Touch)) (pid : ℕ) (ts : List Touch) (i : ℕ) (found : List Clash) → i < length ts → AreClashes lists pid (slice_range ts i (i + 1)) found → (t : Touch) → t ≡ get_or ts i t → AreClashes lists pid (t ∷ []) found
-asked_alone lists pid ts i found within are t is = subst (λ (us : List Touch). AreClashes lists pid us found) (one_slice ts i t within is) are
-
--- and of one that is not asked about
+-- the clashes of a touch that is not asked about
 pub not_asked : (lists : List (List Touch)) (pid : ℕ) (u : Touch) → not (looks_at (λ d. not (others_write lists pid d)) u.aspect u.write) ≡ false → AreClashes lists pid (u ∷ []) []
 not_asked lists pid u dropped = ([], [], refl, dropped_alone lists pid (λ d. not (others_write lists pid d)) (none_unwritten lists pid) u (not-false _ dropped), refl)
-
-pub clashes_more : (lists : List (List Touch)) (pid : ℕ) (ts : List Touch) (i : ℕ) (found own all : List Clash) → i < length ts → AreClashes lists pid (take i ts) found → ((t : Touch) → t ≡ get_or ts i t → AreClashes lists pid (t ∷ []) own) → all ≡ found ++ own → AreClashes lists pid (take (i + 1) ts) all
-clashes_more lists pid ts i found own all within are of is = by ts within are of where
-  by : (us : List Touch) → i < length us → AreClashes lists pid (take i us) found → ((t : Touch) → t ≡ get_or us i t → AreClashes lists pid (t ∷ []) own) → AreClashes lists pid (take (i + 1) us) all
-  by [] none was ones = absurd (omega arith)
-  by (u ∷ us) some was ones =
-      let t : Touch = get_or (u ∷ us) i u in
-      let there : t ≡ get_or (u ∷ us) i t = get_or_default (u ∷ us) i u t some in
-      subst (λ (x : List Clash). AreClashes lists pid (take (i + 1) (u ∷ us)) x) (sym is)
-      (subst (λ (x : List Touch). AreClashes lists pid x (found ++ own)) (sym (take_more (u ∷ us) i u some))
-      (clashes_join lists pid (take i (u ∷ us)) (t ∷ []) found own was (ones t there)))
-
--- two that are read at one place are one
-pub one_touch : (ts : List Touch) (i : ℕ) (t u : Touch) → i < length ts → t ≡ get_or ts i t → u ≡ get_or ts i u → t ≡ u
-one_touch ts i t u within is other = is ∙ get_or_default ts i t u within ∙ sym other

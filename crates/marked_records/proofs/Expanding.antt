@@ -1,8 +1,8 @@
 -- What a journal's entries mark: blocks mark nothing.
-use Rattle.std.proofs.Common.{◌≡◌, ◌≢◌, ℕ, zero, suc, ◌+◌, ◌-◌, ◌<◌, ◌≤◌, refl, sym, ◌∙◌, ap, subst, true, false, Bool, List, [], ◌∷◌, ◌++◌, map, take, drop, length, get_or, if◌then◌else◌, append_assoc, arith}
-use Rattle.std.specs.Prelude.{◌||◌, ◌&&◌, ◌==◌}
+use Rattle.std.proofs.Common.{◌≡◌, ◌≢◌, ℕ, zero, suc, ◌+◌, ◌-◌, ◌<◌, ◌≤◌, refl, sym, ◌∙◌, ap, subst, true, false, Bool, List, [], ◌∷◌, ◌++◌, take, drop, length, get_or, if◌then◌else◌, arith}
+use Rattle.std.specs.Prelude.{◌||◌, ◌==◌}
 use Rattle.std.specs.List.{list_any}
-use Rattle.std.proofs.lemmas.Bool.{false≢true, eqb-true, eqb-false, eq-eqb, ne_eqb, or_left}
+use Rattle.std.proofs.lemmas.Bool.{false≢true, eqb-true, eq-eqb, ne_eqb, or_left}
 use Rattle.std.proofs.lemmas.List.{append-nil, at_drop_more, take_more, take_all, take-append-drop, take-take, length-append}
 use Rattle.std.proofs.lemmas.List.Concat.{flat_map-append}
 use Rattle.std.proofs.lemmas.List.Folds.{list_any-append}
@@ -42,7 +42,7 @@ blocks_mark d f a n w = held_equal _ _ (blocks_unread d f a n w) (blocks_unchang
 marks_append : (d : ℕ) (ts us : List Touch) → marks_at d (ts ++ us) ≡ joined (marks_at d ts) (marks_at d us)
 marks_append d ts us = held_equal _ _ (list_any-append (λ t. reads_names d t.aspect) ts us) (list_any-append (λ t. changes_names d t.aspect t.write) ts us)
 
-or_none : (b : Bool) → (b || false) ≡ b
+pub or_none : (b : Bool) → (b || false) ≡ b
 or_none true = refl
 or_none false = refl
 
@@ -189,7 +189,7 @@ module _ (d : ℕ) (xs : List Touched) (i : ℕ) (x : Touched) (count left n : �
   pub step_some : 0 < left - n → (left - n) + length (expanded (take (i + 1) xs)) ≡ count
   step_some more =
       let e : length (expanded (take (i + 1) xs)) ≡ length (expanded (take i xs)) + length (touches_of x) =
-          ap (λ l. length (expanded l)) take_is ∙ ap length (expanded_append (take i xs) (x ∷ []) ∙ ap (λ l. expanded (take i xs) ++ l) (append-nil (touches_of x))) ∙ length-append (expanded (take i xs)) (touches_of x) in
+      ap (λ l. length (expanded l)) take_is ∙ ap length (expanded_append (take i xs) (x ∷ []) ∙ ap (λ l. expanded (take i xs) ++ l) (append-nil (touches_of x))) ∙ length-append (expanded (take i xs)) (touches_of x) in
       omega arith
 
 -- and all entries
@@ -202,19 +202,3 @@ all_gone d count zero n i xs e le none some = ap (λ l. marks_at d (expanded l))
 all_gone d count (suc left) n i xs e le none some =
     ap (λ l. marks_at d (expanded l)) (take_all n xs (omega arith))
     ∙ ends_all d count (suc left) xs (ap (λ l. suc left + length (expanded l)) (sym (take_all i xs le)) ∙ some (omega arith))
-
--- what is held lies between two that are the same
-bool_same : (a b : Bool) → (a ≡ true → b ≡ true) → (b ≡ true → a ≡ true) → a ≡ b
-bool_same true b f g = sym (f refl)
-bool_same false true f g = g refl
-bool_same false false f g = refl
-
-pub held_between : (a b : Held) → IsPartOf a b → IsPartOf b a → b ≡ a
-held_between a b least most = held_equal b a (bool_same b.names_read a.names_read most.names_read least.names_read) (bool_same b.entry_written a.entry_written most.entry_written least.entry_written)
-
-pub sets_kept : (old new : Table) (p : ℕ) (kept : List Touched) (f : ℕ → Held) → ((q d : ℕ) → q ≢ p → held_of new q d ≡ held_of old q d) → ((d : ℕ) → IsPartOf (marks_at d (expanded kept)) (held_of new p d)) → ((d : ℕ) → IsPartOf (held_of new p d) (marks_at d (expanded kept)))
-    → ((d : ℕ) → marks_at d (expanded kept) ≡ f d) → SetsMarks old new p f
-sets_kept old new p kept f others least most is q d = by (q == p) refl where
-  by : (b : Bool) → (q == p) ≡ b → held_of new q d ≡ (if b then f d else held_of old q d)
-  by true e = ap (λ x. held_of new x d) (eqb-true q p e) ∙ held_between (marks_at d (expanded kept)) (held_of new p d) (least d) (most d) ∙ is d
-  by false e = others q d (eqb-false q p e)

@@ -1,17 +1,17 @@
 -- What is held, by what is recorded.
-use Rattle.std.proofs.Common.{◌≡◌, ◌≢◌, ℕ, ◌+◌, ◌<◌, ◌≤◌, refl, sym, ◌∙◌, ap, subst, true, false, Bool, List, [], ◌∷◌, ◌++◌, take, drop, length, set, get_or, arith, length-append}
-use Rattle.std.specs.Prelude.{◌||◌, ◌&&◌, ◌==◌, not, if◌then◌else◌}
+use Rattle.std.proofs.Common.{◌≡◌, ◌≢◌, ℕ, ◌<◌, ◌≤◌, refl, sym, ◌∙◌, ap, subst, true, false, Bool, List, [], ◌∷◌, ◌++◌, take, drop, length, set, arith, length-append}
+use Rattle.std.specs.Prelude.{◌&&◌, ◌==◌, not, if◌then◌else◌}
 use Rattle.std.specs.List.{list_any}
-use Rattle.std.proofs.lemmas.Bool.{or_left, eq-eqb, ne_eqb}
-use Rattle.std.proofs.lemmas.List.{take-append-drop, take-append-le, take-take, take_all, get_or_past, get_or-set_same, set-set, set-get_or}
-use Rattle.std.proofs.lemmas.List.Folds.{list_any-append, list_any_more}
+use Rattle.std.proofs.lemmas.Bool.{or_left, ne_eqb}
+use Rattle.std.proofs.lemmas.List.{take-append-drop, take-append-le, take_all, get_or_past, get_or-set_same, set-set, set-get_or}
+use Rattle.std.proofs.lemmas.List.Folds.{list_any-append}
 use Rattle.model.specs.Steps.{Touch}
-use Rattle.model.specs.Modes.{ListMode, any_below, reads_names}
+use Rattle.model.specs.Modes.{ListMode, any_below}
 use Rattle.model.specs.Clashes.{has_touch}
 use Rattle.records.specs.Touches.{touched_by, with_touch, with_touches}
 use Rattle.list_modes.specs.declared.Held.{Held}
 use Rattle.list_modes.specs.Holding.{Table, held_of, IsPartOf, IsBelow, mode_among, mode_in, others_write}
-use Rattle.marked_records.specs.Marks.{changes_names, marks_of, marks_at, joined, IsMarked, SetsMarks, IsBetween, mode_by_touches, others_write as others_write_by}
+use Rattle.marked_records.specs.Marks.{marks_at, IsMarked, SetsMarks, IsBetween, mode_by_touches, others_write as others_write_by}
 
 any_first : {X : Type 0} (test : X → Bool) (n : ℕ) (xs : List X) → list_any test (take n xs) ≡ true → list_any test xs ≡ true
 any_first test n xs h = ap (list_any test) (sym (take-append-drop n xs)) ∙ list_any-append test (take n xs) (drop n xs) ∙ or_left (list_any test (take n xs)) (list_any test (drop n xs)) h
@@ -37,27 +37,8 @@ others_marked lists table p d others was is = is (length lists) (below_all lists
 held_equal : (a b : Held) → a.names_read ≡ b.names_read → a.entry_written ≡ b.entry_written → a ≡ b
 held_equal a b names entries = λ i. record { names_read = names i; entry_written = entries i }
 
-any_more : (test : Touch → Bool) (ts : List Touch) (i : ℕ) (t : Touch) → i < length ts → t ≡ get_or ts i t → (list_any test (take i ts) || test t) ≡ list_any test (take (i + 1) ts)
-any_more test ts i t within is = ap (λ u. list_any test (take i ts) || test u) is ∙ sym (list_any_more test ts i t within)
-
-marks_more : (ts : List Touch) (i : ℕ) (t : Touch) (d : ℕ) → i < length ts → t ≡ get_or ts i t → joined (marks_at d (take i ts)) (marks_of d t) ≡ marks_at d (take (i + 1) ts)
-marks_more ts i t d within is = held_equal _ _ (any_more (λ u. reads_names d u.aspect) ts i t within is) (any_more (λ u. changes_names d u.aspect u.write) ts i t within is)
-
--- one touch more is marked
-pub own_more : (old new : Table) (p i : ℕ) (ts : List Touch) (t : Touch) → i < length ts → t ≡ get_or ts i t → ((d : ℕ) → held_of old p d ≡ marks_at d (take i ts)) → SetsMarks old new p (λ d. joined (held_of old p d) (marks_of d t)) → (d : ℕ) → held_of new p d ≡ marks_at d (take (i + 1) ts)
-own_more old new p i ts t within is was sets d = sets p d ∙ ap (λ b. if b then joined (held_of old p d) (marks_of d t) else held_of old p d) (eq-eqb p p refl) ∙ ap (λ h. joined h (marks_of d t)) (was d) ∙ marks_more ts i t d within is
-
 pub others_more : (first old new : Table) (p : ℕ) (f : ℕ → Held) → ((q d : ℕ) → q ≢ p → held_of old q d ≡ held_of first q d) → SetsMarks old new p f → (q d : ℕ) → q ≢ p → held_of new q d ≡ held_of first q d
 others_more first old new p f was sets q d ne = sets q d ∙ ap (λ b. if b then f d else held_of old q d) (ne_eqb q p ne) ∙ was q d ne
-
--- the marks of some first touches lie between those of fewer and those of all
-pub between_first : (table : Table) (p count i : ℕ) (ts : List Touch) → count ≤ i → ((d : ℕ) → held_of table p d ≡ marks_at d (take i ts)) → IsBetween table p count ts
-between_first table p count i ts le held = record {
-  least = λ d. subst (λ (h : Held). IsPartOf (marks_at d (take count ts)) h) (sym (held d)) (record { names_read = fewer _; entry_written = fewer _ });
-  most = λ d. subst (λ (h : Held). IsPartOf h (marks_at d ts)) (sym (held d)) (record { names_read = any_first _ i ts; entry_written = any_first _ i ts });
-} where
-  fewer : (test : Touch → Bool) → list_any test (take count ts) ≡ true → list_any test (take i ts) ≡ true
-  fewer test h = any_first test count (take i ts) (ap (list_any test) (take-take count i ts le) ∙ h)
 
 -- touches that come later stand behind those that are there
 one_behind : (held : List Touch) (t : Touch) (n : ℕ) → n ≤ length held → (n ≤ length (with_touch held t)) × (take n (with_touch held t) ≡ take n held)

@@ -12,7 +12,7 @@ ghost use Rattle.list_modes.specs.Holding.{held_of};
 ghost use Rattle.model.specs.Steps.{Touch as OfModel};
 ghost use Rattle.records.specs.Touches.{touched_by, with_touches};
 ghost use Rattle.marked_records.specs.Marks.{SetsMarks, marks_at, mode_by_touches};
-ghost use Rattle.marked_records.specs.Marks.{others_write};
+ghost use Rattle.marked_records.specs.Marks.{others_write, looks_at};
 ghost use Rattle.conflict.specs.Clashing.{AreClashes};
 ghost use Rattle.conflict.specs.Firsts.{AreFirstsOf, AreFirstClashes};
 ghost use Rattle.conflict.specs.declared.found.Clash.{Clash};
@@ -174,15 +174,23 @@ impl MarkedRecords {
 
     // Whether a touch may clash with one of another process: where no other process writes an entry
     // of a directory, a look at its names does not.
-    fn may_clash(&self, caller: Pid, touched: &Touched) -> bool
+    fn may_clash(&self, caller: Pid, touch: &Touch) -> bool
+        ensures { result ≡ not (looks_at (λ d. not (others_write self.now caller d))
+            touch.now.aspect touch.now.write) }
+    {
+        match (&touch.aspect, touch.write) {
+            (Aspect::Names(dir), false) => self.others_write(caller, *dir),
+            _ => true,
+        }
+    }
+
+    // Whether one of these touches may.
+    fn any_may_clash(&self, caller: Pid, touched: &Touched) -> bool
         ensures { result ≡ false → AreClashes self.now caller (touches_of touched.now) [] }
     {
         match touched {
-            Touched::One(Touch {
-                aspect: Aspect::Names(dir),
-                write: false,
-            }) => self.others_write(caller, *dir),
-            _ => true,
+            Touched::One(touch) => self.may_clash(caller, touch),
+            Touched::Blocks(_) => true,
         }
     }
 
@@ -197,7 +205,7 @@ impl MarkedRecords {
             × AreClashes self.now caller (touches_of touched.now) own
             × AreFirstsOf (found.old ++ own) found.new) }
     {
-        if self.may_clash(caller, touched) {
+        if self.any_may_clash(caller, touched) {
             found.add(&self.records, caller, touched)
         } else {
             Ok(())

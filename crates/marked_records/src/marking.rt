@@ -137,8 +137,9 @@ fn unmark_one(holders: &mut Holders, pid: Pid, touched: &Touched, kept: &[Touche
         (marks_at d (expanded (kept.now ++ touched.now ∷ rest)))
         → IsPartOf (held_of holders.new pid d) (marks_at d (expanded (kept.now ++ rest))) }
 {
-    if let Touched::One(touch) = touched {
-        unmark(holders, pid, touch, kept);
+    match touched {
+        Touched::One(touch) => unmark(holders, pid, touch, kept),
+        Touched::Blocks(_) => {}
     }
 }
 

@@ -1,7 +1,6 @@
 -- What is found by the row of a block is exactly what clashes.
-use Rattle.std.proofs.Common.{◌≡◌, ◌∙◌, sym, refl, ap, subst, ℕ, ◌+◌, ◌<◌, Bool, true, false, not, ◌&&◌, ◌||◌, ◌==◌, Option, Some, None, List, [], ◌∷◌, ◌++◌, length, get_or, drop, if◌then◌else◌, append_assoc}
+use Rattle.std.proofs.Common.{◌≡◌, ◌∙◌, sym, refl, ap, subst, ℕ, Bool, true, false, not, ◌&&◌, ◌||◌, ◌==◌, Option, Some, None, List, [], ◌∷◌, if◌then◌else◌}
 use Rattle.std.proofs.lemmas.Bool.{false≢true, and_parts}
-use Rattle.std.proofs.lemmas.List.{at_drop_more}
 use Rattle.std.proofs.lemmas.List.Folds.{list_any-append}
 use Rattle.model.specs.Aspects.{Aspect, Entry, Names, Size, Block, Links, Ends, Offset, Front, Back}
 use Rattle.model.specs.Aspects.{Target, Rights}
@@ -40,35 +39,6 @@ users_once w b (h ∷ hs) single = by (alike h.write w && has_block b h) refl (u
       let way : h.write ≡ w = alike_is h.write w (and_parts (alike h.write w) (has_block b h) e).0 in
       (users_uses h.pid b w hs ∙ ap (λ x. uses h.pid x b hs) (sym way) ∙ none_used h.pid b h.write hs single.0, rest)
   by false e rest = rest
-
--- the marks of others, as the holdings of a row are gone over
-abbrev pub is_others : ℕ → Bool → ℕ → Holding → Bool
-is_others caller w b h = (alike h.write w && has_block b h) && not (h.pid == caller)
-
-abbrev pub others_in : ℕ → Touch → Bool → ℕ → List Holding → List Mark
-others_in caller t w b hs = marks_of caller t (users_of w b hs)
-
-others_first : (caller b : ℕ) (t : Touch) (w : Bool) (h : Holding) (hs : List Holding) → others_in caller t w b (h ∷ hs) ≡ (if is_others caller w b h then mark_of h.pid t ∷ others_in caller t w b hs else others_in caller t w b hs)
-others_first caller b t w h hs = by (alike h.write w && has_block b h) where
-  by : (k : Bool) → marks_of caller t (if k then h.pid ∷ users_of w b hs else users_of w b hs) ≡ (if k && not (h.pid == caller) then mark_of h.pid t ∷ others_in caller t w b hs else others_in caller t w b hs)
-  by true = refl
-  by false = refl
-
-others_at : (caller b i : ℕ) (t : Touch) (w : Bool) (hs : List Holding) (h : Holding) → i < length hs → h ≡ get_or hs i h → others_in caller t w b (drop i hs) ≡ (if is_others caller w b h then mark_of h.pid t ∷ others_in caller t w b (drop (i + 1) hs) else others_in caller t w b (drop (i + 1) hs))
-others_at caller b i t w hs h lt is =
-    at_drop_more (others_in caller t w b) hs i h lt
-    ∙ ap (λ x. others_in caller t w b (x ∷ drop (i + 1) hs)) (sym is)
-    ∙ others_first caller b t w h (drop (i + 1) hs)
-
-pub others_taken : (caller b i : ℕ) (t : Touch) (w : Bool) (hs : List Holding) (h : Holding) (found new : List Mark) → i < length hs → h ≡ get_or hs i h → is_others caller w b h ≡ true → new ≡ found ++ mark_of h.pid t ∷ [] → new ++ others_in caller t w b (drop (i + 1) hs) ≡ found ++ others_in caller t w b (drop i hs)
-others_taken caller b i t w hs h found new lt is passes e =
-    ap (λ l. l ++ others_in caller t w b (drop (i + 1) hs)) e
-    ∙ append_assoc found (mark_of h.pid t ∷ []) (others_in caller t w b (drop (i + 1) hs))
-    ∙ ap (λ l. found ++ l) (sym (others_at caller b i t w hs h lt is ∙ ap (λ k. if k then mark_of h.pid t ∷ others_in caller t w b (drop (i + 1) hs) else others_in caller t w b (drop (i + 1) hs)) passes))
-
-pub others_passed : (caller b i : ℕ) (t : Touch) (w : Bool) (hs : List Holding) (h : Holding) (found : List Mark) → i < length hs → h ≡ get_or hs i h → is_others caller w b h ≡ false → found ++ others_in caller t w b (drop (i + 1) hs) ≡ found ++ others_in caller t w b (drop i hs)
-others_passed caller b i t w hs h found lt is off =
-    ap (λ l. found ++ l) (sym (others_at caller b i t w hs h lt is ∙ ap (λ k. if k then mark_of h.pid t ∷ others_in caller t w b (drop (i + 1) hs) else others_in caller t w b (drop (i + 1) hs)) off))
 
 module _ (lists : List (List Touch)) (p : Places) (f b caller : ℕ) (are : AreRowsOf lists p) where
   abbrev row : Option (List Holding)

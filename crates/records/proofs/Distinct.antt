@@ -1,8 +1,6 @@
 -- A list in which each touch stands once, as one is added at its end or taken from there.
-use Rattle.std.proofs.Common.{◌≡◌, ◌∙◌, sym, refl, ap, ◌+◌, ◌≤◌, Bool, true, false, List, [], ◌∷◌, ◌++◌, length, Option, Some, None, if◌then◌else◌, arith}
-use Rattle.std.specs.Prelude.{IfSome}
-use Rattle.std.specs.Option.{option_to_list}
-use Rattle.std.proofs.lemmas.List.{length_push, same_from_push, append-nil}
+use Rattle.std.proofs.Common.{◌≡◌, ◌∙◌, sym, refl, ap, ◌+◌, ◌≤◌, Bool, true, false, List, [], ◌∷◌, ◌++◌, length, if◌then◌else◌, arith}
+use Rattle.std.proofs.lemmas.List.{length_push, same_from_push}
 use Rattle.model.specs.Steps.{Touch}
 use Rattle.records.specs.Touches.{with_touch, with_touches, distinct}
 use Rattle.records.specs.Index.{has}
@@ -10,11 +8,6 @@ use Rattle.records.proofs.Laws.{with_new, with_touches_append}
 
 pub once_pushed : (ts : List Touch) (t : Touch) → distinct ts ≡ ts → has t ts ≡ false → distinct (ts ++ t ∷ []) ≡ ts ++ t ∷ []
 once_pushed ts t e h = with_touches_append [] ts (t ∷ []) ∙ ap (λ l. with_touch l t) e ∙ with_new ts t h
-
--- and where there is no memory for it
-pub once_pushed_if : (ts us : List Touch) (t : Touch) (b : Bool) → distinct ts ≡ ts → has t ts ≡ false → us ≡ (if b then ts ++ t ∷ [] else ts) → distinct us ≡ us
-once_pushed_if ts us t true e h is = ap distinct is ∙ once_pushed ts t e h ∙ sym is
-once_pushed_if ts us t false e h is = ap distinct is ∙ e ∙ sym is
 
 grown_by : (held : List Touch) (t : Touch) (b : Bool) → length (if b then held else held ++ t ∷ []) ≤ length held + 1
 grown_by held t true = omega arith
@@ -35,8 +28,3 @@ pub once_popped : (ts all : List Touch) (t : Touch) → all ≡ ts ++ t ∷ [] �
 once_popped ts all t is e =
     popped_by ts (distinct ts) t (has t (distinct ts)) (let h = no_longer [] ts in omega arith) refl
     (sym (with_touches_append [] ts (t ∷ [])) ∙ ap distinct (sym is) ∙ e ∙ is)
-
--- what `pop` leaves and gives
-pub once_left : (ts all : List Touch) (o : Option Touch) → all ≡ ts ++ option_to_list o → distinct all ≡ all → (distinct ts ≡ ts) × IfSome o (λ t. has t ts ≡ false)
-once_left ts all (Some t) is e = once_popped ts all t is e
-once_left ts all None is e = let same = is ∙ append-nil ts in (ap distinct (sym same) ∙ e ∙ same, tt)

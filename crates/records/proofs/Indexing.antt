@@ -140,27 +140,11 @@ enrolled_same [] (suc q) = refl
 enrolled_same (l ∷ js) zero = refl
 enrolled_same (l ∷ js) (suc q) = enrolled_same js q
 
--- a process more that touched nothing, or one less
-pub indexed_enrolled : (js : List (List Touch)) (s : Index) → IsIndexed js s → IsIndexed (js ++ [] ∷ []) s
-indexed_enrolled js s indexed = record {
-  each = λ m. indexed.each m ∙ ap (has m.touch) (sym (enrolled_same js m.pid));
-  once = indexed.once;
-}
-
-shrunk_by : (js ks : List (List Touch)) (s : Index) → IsIndexed js s → js ≡ ks ++ [] ∷ [] → IsIndexed ks s
-shrunk_by js ks s indexed e = record {
-  each = λ m. indexed.each m ∙ ap (λ x. has m.touch (touched_by x m.pid)) e ∙ ap (has m.touch) (enrolled_same ks m.pid);
-  once = indexed.once;
-}
-
 -- the last journal apart from those before it
 pub last_apart : (js : List (List Touch)) → 0 < length js → js ≡ take (length js - 1) js ++ touched_by js (length js - 1) ∷ []
 last_apart js some =
     let e : length js ≡ (length js - 1) + 1 = omega arith in
     sym (take_all (length js) js (omega arith)) ∙ ap (λ n. take n js) e ∙ take_more js (length js - 1) [] (omega arith)
-
-pub indexed_shrunk : (js ks : List (List Touch)) (s : Index) → IsIndexed js s → 0 < length js → touched_by js (length js - 1) ≡ [] → ks ≡ take (length js - 1) js → IsIndexed ks s
-indexed_shrunk js ks s indexed some untouched e = shrunk_by js ks s indexed (last_apart js some ∙ ap (λ l. take (length js - 1) js ++ l ∷ []) untouched ∙ ap (λ x. x ++ [] ∷ []) (sym e))
 
 pub not_false : (f b : Bool) → f ≡ not b → f ≡ false → b ≡ true
 not_false f true h k = refl

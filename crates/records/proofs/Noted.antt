@@ -184,9 +184,6 @@ pub some_added : {A E : Type 0} (r : Result A E) (js ks : List (List Touch)) (pi
 some_added (Ok x) js ks pid ts ok err = (ts, ok)
 some_added (Err e) js ks pid ts ok err = ([], err ∙ sym (set-get_or js pid []))
 
-pub none_added : (js ks : List (List Touch)) (pid : ℕ) → ks ≡ js → (us : List Touch) × (ks ≡ set js pid (with_touches (touched_by js pid) us))
-none_added js ks pid e = ([], e ∙ sym (set-get_or js pid []))
-
 -- the last touches of a process are gone
 pub shorter_is : (js ks : List (List Touch)) (pid most : ℕ) (us : List Touch) → ks ≡ set js pid (touched_by ks pid) → touched_by js pid ≡ touched_by ks pid ++ us → 0 < length us → length us ≤ most → IsShorter js ks pid most
 shorter_is js ks pid most us e is some few =

@@ -11,7 +11,6 @@ use Rattle.touches.specs.Expanded.{touches_of_blocks}
 use Rattle.touches.proofs.Runs.{block_touch}
 use Rattle.records.specs.Codes.{is_touch}
 use Rattle.records.specs.Groups.{alike}
-use Rattle.records.specs.Index.{has}
 use Rattle.records.specs.Touches.{with_touch, with_touches, distinct}
 use Rattle.records.proofs.Distinct.{no_longer}
 use Rattle.records.proofs.Exact.{touch_parts}
@@ -24,9 +23,6 @@ AreNew held ts = with_touches held ts ≡ held ++ ts
 
 pub once_appended : (held ts : List Touch) → distinct held ≡ held → AreNew held ts → distinct (held ++ ts) ≡ held ++ ts
 once_appended held ts once new = with_touches_append [] held ts ∙ ap (λ l. with_touches l ts) once ∙ new
-
-pub new_one : (held : List Touch) (t : Touch) → has t held ≡ false → AreNew held (t ∷ [])
-new_one held t none = with_new held t none
 
 -- what stands first stands once too, and the rest was new to it
 pub once_before : (xs ys : List Touch) → distinct (xs ++ ys) ≡ xs ++ ys → (distinct xs ≡ xs) × AreNew xs ys

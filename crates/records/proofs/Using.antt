@@ -137,13 +137,6 @@ ended_behind c b h some le = by (has_block c h) refl where
   by true has = grind (arith, nat_tests)
   by false off = grind (arith, nat_tests)
 
-pub ended_none : (c q b : ℕ) (w : Bool) (hs : List Holding) → 0 < c → c ≤ b → uses q w b (map (ended c) hs) ≡ false
-ended_none c q b w [] some le = refl
-ended_none c q b w (h ∷ hs) some le =
-    ap (λ k. (is_own q w (ended c h) && k) || uses q w b (map (ended c) hs)) (ended_behind c b h some le)
-    ∙ ap (λ k. k || uses q w b (map (ended c) hs)) (and_false (is_own q w (ended c h)))
-    ∙ ended_none c q b w hs some le
-
 -- one process goes
 pub without_uses : (p q b : ℕ) (v w : Bool) (hs : List Holding) → uses q w b (without_use p v hs) ≡ (not (is_user p v q w) && uses q w b hs)
 without_uses p q b v w [] = sym (and_false (not (is_user p v q w)))

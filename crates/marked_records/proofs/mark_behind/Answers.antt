@@ -7,12 +7,12 @@ use Rattle.marked_records.proofs.Held.{others_more}
 use Rattle.marked_records.proofs.mark_behind.Goals as goal
 
 pub unmark_behind-requires : goal.unmark_behind-requires
-unmark_behind-requires c = between_entries c.mark_one.new.holders c.args.pid c.args.count c.entries_of.result c.loop-i.i c.args.touches.now (omega arith) c.entries_of.ensures.same (λ d. ap (λ t. held_of t c.args.pid d) c.in-Err.ensures.err ∙ c.loop-i.invariant.own d)
+unmark_behind-requires c = between_entries c.mark_one.new.holders c.args.pid c.args.count c.entries_of-i.result c.loop-i.i c.args.touches.now (omega arith) c.entries_of-i.ensures.same (λ d. ap (λ t. held_of t c.args.pid d) c.in-Err.ensures.err ∙ c.loop-i.invariant.own d)
 
 pub loop-i-init : goal.loop-i-init
 loop-i-init c = record {
   others = λ p d ne. refl;
-  own = λ d. c.requires d ∙ sym (c.entries_of.ensures.same d);
+  own = λ d. c.requires d ∙ sym (c.entries_of-i.ensures.same d);
 }
 
 pub loop-i-preserved : goal.loop-i-preserved

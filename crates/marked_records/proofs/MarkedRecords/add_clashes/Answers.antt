@@ -8,8 +8,8 @@ use Rattle.conflict.specs.declared.found.Clash.{Clash}
 use Rattle.conflict.proofs.Firsts.{firsts_none}
 use Rattle.marked_records.proofs.MarkedRecords.add_clashes.Goals as goal
 
-pub returns-then-may_clash : goal.returns-then-may_clash
-returns-then-may_clash c = subst (λ (lists : List (List Touch)). OnOk c.add.result ((own : List Clash) × AreClashes lists c.args.caller (touches_of c.args.touched.now) own × AreFirstsOf (c.args.found.now ++ own) c.add.new.self)) c.self.view_is c.add.ensures
+pub returns-then-any_may_clash : goal.returns-then-any_may_clash
+returns-then-any_may_clash c = subst (λ (lists : List (List Touch)). OnOk c.add.result ((own : List Clash) × AreClashes lists c.args.caller (touches_of c.args.touched.now) own × AreFirstsOf (c.args.found.now ++ own) c.add.new.self)) c.self.view_is c.add.ensures
 
-pub returns-else-may_clash : goal.returns-else-may_clash
-returns-else-may_clash c = ([], c.may_clash.ensures c.if-may_clash.false, firsts_none c.args.found.now)
+pub returns-else-any_may_clash : goal.returns-else-any_may_clash
+returns-else-any_may_clash c = ([], c.any_may_clash.ensures c.if-any_may_clash.false, firsts_none c.args.found.now)
