@@ -30,7 +30,7 @@ pub const TARGET_LIMIT: usize = 4095;
 
 /// The most bytes that a file can have at all, and so the largest offset: what the layers below hold. A
 /// kernel has a number of its own, at most this ([`Limits::file_bytes`]).
-pub const LARGEST_FILE: usize = 2_147_483_647;
+pub const LARGEST_FILE: usize = 9_223_372_036_854_775_807;
 
 /// The most bytes of a file of a kernel for which no number is given.
 pub const DEFAULT_LARGEST_FILE: u32 = 1_048_576;

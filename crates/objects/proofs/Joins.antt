@@ -3,10 +3,9 @@ use Rattle.std.proofs.Common.{◌≡◌, ◌≢◌, ℕ, suc, ◌+◌, ◌*◌, 
 use Rattle.std.proofs.Math.ListN.{set}
 use Rattle.std.proofs.Math.Seq.{get_or-append_seam}
 use Rattle.std.proofs.lemmas.Bool.{cases_eq}
-use Rattle.std.proofs.lemmas.List.{get_or_past}
 use Rattle.objects.specs.Contents.{Content}
 use Rattle.objects.specs.Ways.{JoinedFrom, no_piece, piece_in_row}
-use Rattle.objects.proofs.Placed.{behind_row, before_row, beyond_row, not_in_row, piece_is, set_here, set_other}
+use Rattle.objects.proofs.Placed.{absent, behind_row, before_row, beyond_row, not_in_row, piece_is, set_here, set_other}
 
 -- the first items of a list
 pub record IsFront {X : Type 0} (left all : List X) : Type 0 where
@@ -30,7 +29,7 @@ low_place one other now left new rest last is end count fits = (let all = left_l
 module _ {Item : Type 0} (span : ℕ) (none : Item) (piece : Item → ℕ → Content) (some : 1 ≤ span) (bare : (n : ℕ) → piece none n ≡ no_piece) where
   -- where none has come yet
   none_there : (one : List Item) (n : ℕ) → length one * span ≤ n → piece_in_row span none piece one n ≡ no_piece
-  none_there one n from = ap (λ (item : Item). piece item (n % span)) (get_or_past one (n / span) none (behind_row span some (length one) n from)) ∙ bare (n % span)
+  none_there one n from = absent span none piece bare one n (behind_row span some (length one) n from)
 
   pub rows_at_start : (one other : List Item) (k : ℕ) → length one ≡ k → JoinedFrom (piece_in_row span none piece) (k * span) one other other
   rows_at_start one other k all = record {

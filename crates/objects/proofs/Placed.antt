@@ -40,10 +40,6 @@ module _ (span : ℕ) (some : 1 ≤ span) where
     | inr past ↦ past
   ]
 
-  -- two numbers with one quotient and one rest are one
-  pub same_place : (m n : ℕ) → m / span ≡ n / span → m % span ≡ n % span → m ≡ n
-  same_place m n rows rests = (let a = div-add-mod' m span in let b = div-add-mod' n span in let same : m / span * span ≡ n / span * span = ap (λ k. k * span) rows in omega (arith, a, b, same, rests))
-
   pub quotients_rise : (m n : ℕ) → m ≤ n → m / span ≤ n / span
   quotients_rise m n less = behind_row (m / span) n (let here = in_row (m / span) m refl in omega (arith, here.0, less))
 
@@ -96,18 +92,6 @@ module _ {Item : Type 0} (span : ℕ) (none : Item) (piece : Item → ℕ → Co
 
     stays : (R : Content → Content → Type 0) → ((p : Content) → R p p) → (n : ℕ) → n / span ≢ k → R (piece_in_row span none piece items n) (piece_in_row span none piece (set items k new) n)
     stays R same n not = subst (R (piece_in_row span none piece items n)) (sym (set_other items k new n not)) (same (piece_in_row span none piece items n))
-
-    pub changed_all : (R : Content → Content → Type 0) → ((p : Content) → R p p) → ((i : ℕ) → R (piece child i) (piece new i)) → (n : ℕ) → R (piece_in_row span none piece items n) (piece_in_row span none piece (set items k new) n)
-    changed_all R same all n = elim (cases_eq (n / span) k) [
-      | inl here ↦ changed_here R n here (all (n % span))
-      | inr not ↦ stays R same n not
-    ]
-
-    pub changed_others : (R : Content → Content → Type 0) → ((p : Content) → R p p) → (number : ℕ) → number / span ≡ k → ((i : ℕ) → i ≢ number % span → R (piece child i) (piece new i)) → (n : ℕ) → n ≢ number → R (piece_in_row span none piece items n) (piece_in_row span none piece (set items k new) n)
-    changed_others R same number at others n other = elim (cases_eq (n / span) k) [
-      | inl here ↦ changed_here R n here (others (n % span) (λ rests. other (same_place span some n number (here ∙ sym at) rests)))
-      | inr not ↦ stays R same n not
-    ]
 
     -- and those behind it go
     module _ (bare : (n : ℕ) → piece none n ≡ no_piece) (number : ℕ) (at : number / span ≡ k) where
