@@ -40,12 +40,13 @@ fn a_gap_takes_no_memory(rt: HostRuntime) {
     let heap = heap::open(rt.alloc()).expect(&rt, "memory");
     let mut file = FileData::new(heap);
     heap.refuse(1);
-    file.cut(2_147_483_647);
+    file.cut(9_223_372_036_854_775_807);
+    file.wipe(15_000, 9_223_372_036_854_000_000);
     let told = [heap.made(), file.len() as u64];
     heap.refuse(0);
-    assert_ends(&rt, heap, &file, 2_147_483_644, &[0; 3]);
+    assert_ends(&rt, heap, &file, 9_223_372_036_854_775_804, &[0; 3]);
     drop(file);
-    assert_eq!(rt; told, [0, 2_147_483_647]);
+    assert_eq!(rt; told, [0, 9_223_372_036_854_775_807]);
 }
 
 #[test]
@@ -69,49 +70,107 @@ fn a_write_goes_over_the_borders_of_pieces(rt: HostRuntime) {
 fn the_largest_file_keeps_its_last_bytes(rt: HostRuntime) {
     let heap = heap::open(rt.alloc()).expect(&rt, "memory");
     let mut file = FileData::new(heap);
-    file.cut(2_147_483_647);
+    file.cut(9_223_372_036_854_775_807);
     heap.refuse(0);
-    file.write_at(2_147_483_644, b"xyz").expect(&rt, "memory");
-    // Those for the bytes of one piece, and those by which the two lists above it grow.
+    file.write_at(9_223_372_036_854_775_804, b"xyz")
+        .expect(&rt, "memory");
+    // One for the bytes of one piece, and one for each of the nine rows above it.
     let made = heap.made();
     assert_reads(&rt, heap, &file, 0, &[0; 4]);
-    assert_reads(&rt, heap, &file, 2_147_483_642, b"\0\0xy");
-    assert_ends(&rt, heap, &file, 2_147_483_643, b"\0xyz");
-    assert_ends(&rt, heap, &file, 2_147_483_647, b"");
+    assert_reads(&rt, heap, &file, 9_223_372_036_854_775_802, b"\0\0xy");
+    assert_ends(&rt, heap, &file, 9_223_372_036_854_775_803, b"\0xyz");
+    assert_ends(&rt, heap, &file, 9_223_372_036_854_775_807, b"");
     drop(file);
-    assert!(rt; made < 30, "{made} requests");
+    assert!(rt; made < 12, "{made} requests");
 }
 
-// A group of pieces has 3,932,160 bytes.
+// A row of pieces has 983,040 bytes.
 #[test]
-fn a_write_goes_over_the_border_of_groups(rt: HostRuntime) {
+fn a_write_goes_over_the_border_of_rows(rt: HostRuntime) {
     let heap = heap::open(rt.alloc()).expect(&rt, "memory");
     let mut file = FileData::new(heap);
-    file.write_at(7_864_316, &[7; 20_000]).expect(&rt, "memory");
-    file.write_at(3_932_156, b"pqrstuvw").expect(&rt, "memory");
-    file.write_at(3_932_159, b"ab").expect(&rt, "memory");
-    assert_reads(&rt, heap, &file, 3_932_154, b"\0\0pqrabuvw\0\0");
-    assert_reads(&rt, heap, &file, 7_864_314, &[0, 0, 7, 7, 7, 7]);
-    assert_ends(&rt, heap, &file, 7_884_314, &[7, 7]);
+    file.write_at(1_966_076, &[7; 20_000]).expect(&rt, "memory");
+    file.write_at(983_036, b"pqrstuvw").expect(&rt, "memory");
+    file.write_at(983_039, b"ab").expect(&rt, "memory");
+    assert_reads(&rt, heap, &file, 983_034, b"\0\0pqrabuvw\0\0");
+    assert_reads(&rt, heap, &file, 1_966_074, &[0, 0, 7, 7, 7, 7]);
+    assert_ends(&rt, heap, &file, 1_986_074, &[7, 7]);
     drop(file);
+}
+
+// The first region has 62,914,560 bytes.
+#[test]
+fn a_write_goes_over_the_border_of_regions(rt: HostRuntime) {
+    let heap = heap::open(rt.alloc()).expect(&rt, "memory");
+    let mut file = FileData::new(heap);
+    file.write_at(62_914_556, b"pqrstuvw").expect(&rt, "memory");
+    file.write_at(4_611_686_018_427_387_904, b"far")
+        .expect(&rt, "memory");
+    file.write_at(62_914_559, b"ab").expect(&rt, "memory");
+    assert_reads(&rt, heap, &file, 62_914_554, b"\0\0pqrabuvw\0\0");
+    assert_reads(&rt, heap, &file, 0, &[0; 4]);
+    assert_ends(&rt, heap, &file, 4_611_686_018_427_387_902, b"\0\0far");
+    drop(file);
+}
+
+#[test]
+fn a_gap_is_passed_at_once(rt: HostRuntime) {
+    let heap = heap::open(rt.alloc()).expect(&rt, "memory");
+    let mut file = FileData::new(heap);
+    file.write_at(62_914_560, b"at a border")
+        .expect(&rt, "memory");
+    file.write_at(4_611_686_018_427_387_904, b"far")
+        .expect(&rt, "memory");
+    let passed = [
+        file.pass(true, 0, 9_007_199_254_740_991),
+        file.pass(false, 61_440, 1000),
+        file.pass(true, 61_441, 9_007_199_254_000_000),
+        file.pass(false, 61_441, 1000),
+        file.pass(true, 4_503_599_627_370_497, 4_503_599_627_000_000),
+    ];
+    drop(file);
+    assert_eq!(rt; passed, [61_440, 1, 4_503_599_627_309_055, 0, 4_503_599_627_000_000]);
 }
 
 #[test]
 fn a_cut_gives_back_what_stood_behind_it(rt: HostRuntime) {
     let heap = heap::open(rt.alloc()).expect(&rt, "memory");
     let mut file = FileData::new(heap);
-    file.write_at(2_147_483_644, b"xyz").expect(&rt, "memory");
-    file.write_at(3_932_156, b"pqrstuvw").expect(&rt, "memory");
-    file.write_at(3_916_799, b"opqr").expect(&rt, "memory");
-    file.cut(3_916_801);
-    file.cut(2_147_483_647);
+    file.write_at(4_611_686_018_427_387_904, b"xyz")
+        .expect(&rt, "memory");
+    file.write_at(983_036, b"pqrstuvw").expect(&rt, "memory");
+    file.write_at(967_679, b"opqr").expect(&rt, "memory");
+    file.cut(967_681);
+    file.cut(9_223_372_036_854_775_807);
     heap.refuse(1);
-    let refused = is_refused(file.write_at(2_147_483_644, b"x"));
+    let refused = is_refused(file.write_at(4_611_686_018_427_387_904, b"x"));
     heap.refuse(0);
-    assert_reads(&rt, heap, &file, 3_916_798, b"\0op\0\0");
-    assert_reads(&rt, heap, &file, 3_932_154, &[0; 12]);
-    assert_ends(&rt, heap, &file, 2_147_483_642, &[0; 5]);
+    assert_reads(&rt, heap, &file, 967_678, b"\0op\0\0");
+    assert_reads(&rt, heap, &file, 983_034, &[0; 12]);
+    assert_reads(&rt, heap, &file, 4_611_686_018_427_387_902, &[0; 5]);
     drop(file);
+    assert!(rt; refused);
+}
+
+#[test]
+fn a_wipe_goes_over_what_is_there(rt: HostRuntime) {
+    let heap = heap::open(rt.alloc()).expect(&rt, "memory");
+    let mut file = FileData::new(heap);
+    file.write_at(15_358, b"pqrs").expect(&rt, "memory");
+    file.write_at(4_611_686_018_427_387_904, b"far")
+        .expect(&rt, "memory");
+    file.write_at(9_223_372_036_854_775_800, b"last")
+        .expect(&rt, "memory");
+    heap.refuse(1);
+    file.wipe(15_361, 9_223_372_036_854_760_441);
+    let made = heap.made();
+    let refused = is_refused(file.write_at(4_611_686_018_427_387_904, b"x"));
+    heap.refuse(0);
+    assert_reads(&rt, heap, &file, 15_357, b"\0pqr\0\0");
+    assert_reads(&rt, heap, &file, 4_611_686_018_427_387_904, &[0; 3]);
+    assert_ends(&rt, heap, &file, 9_223_372_036_854_775_800, b"\0\0st");
+    drop(file);
+    assert_eq!(rt; made, 0);
     assert!(rt; refused);
 }
 

@@ -1,13 +1,14 @@
 -- Holes of a file in its pieces, and what a row of zeros makes of a piece.
-use Rattle.std.proofs.Common.{◌≡◌, ◌≢◌, ℕ, ◌+◌, ◌-◌, ◌*◌, ◌/◌, ◌%◌, ◌<◌, ◌≤◌, ◌⊎◌, Bool, true, false, not, max, min, List, [], length, get_or, take, replicate, refl, sym, ap, ◌∙◌, arith, inl, inr, length-take, get_or-take}
+use Rattle.std.proofs.Common.{◌≡◌, ◌≢◌, ℕ, zero, suc, ◌+◌, ◌-◌, ◌*◌, ◌/◌, ◌%◌, ◌<◌, ◌≤◌, ◌⊎◌, Bool, true, false, not, max, min, List, [], length, get_or, take, replicate, refl, sym, ap, subst, ◌∙◌, arith, inl, inr, length-take, get_or-take}
 use Rattle.std.proofs.lemmas.Bool.{cases_eq, cases_lt}
 use Rattle.std.proofs.lemmas.List.{get_or_past, get_or-replicate, length-replicate}
-use Rattle.model.specs.Holes.{is_hole, is_alike}
-use Rattle.model.proofs.Laws.{alike, hole_zero, zero_hole}
-use Rattle.objects.specs.Contents.{Content}
-use Rattle.objects.specs.Pieces.{EndsBy, WipedIn, bytes_of, byte_of, piece_of}
+use Rattle.model.specs.Holes.{alike_from, is_hole, is_alike}
+use Rattle.model.proofs.Laws.{alike, hole_zero, row_more, zero_hole}
+use Rattle.objects.specs.Laid.{WipedIn}
+use Rattle.objects.specs.Pieces.{EndsBy, bytes_of, byte_of, piece_of}
+use Rattle.objects.specs.declared.pieces.Pieces.{Pieces}
 use Rattle.objects.specs.Rows.{ends_row}
-use Rattle.objects.specs.declared.group.TheConstants.{PIECE_LEN}
+use Rattle.objects.specs.declared.row.TheConstants.{PIECE_LEN}
 use Rattle.objects.proofs.Pieced.{byte_is}
 use Rattle.objects.proofs.Writes.{WrittenBelow}
 
@@ -29,7 +30,7 @@ ends_with true bytes block e = other_by (is_hole bytes block) e
 ends_with false bytes block e = ap not e
 
 -- a block of a file is one of a piece
-module _ (gs : List (List Content)) (len : ℕ) (ends : EndsBy len gs) (block : ℕ) where
+module _ (gs : Pieces) (len : ℕ) (ends : EndsBy len gs) (block : ℕ) where
   at_piece : (i : ℕ) → i / 1024 ≡ block → get_or (bytes_of gs len) i 0 ≡ get_or (piece_of gs (block / 15)).bytes (i % PIECE_LEN) 0
   at_piece i is =
       let number : i / PIECE_LEN ≡ block / 15 = omega (arith, is) in
@@ -45,6 +46,26 @@ module _ (gs : List (List Content)) (len : ℕ) (ends : EndsBy len gs) (block : 
       let same : (block / 15 * PIECE_LEN + j) % PIECE_LEN ≡ j = omega (arith, is) in
       ap (λ n. get_or (piece_of gs (block / 15)).bytes n 0) (sym same) ∙ sym (at_piece (block / 15 * PIECE_LEN + j) there)
       ∙ hole_zero (bytes_of gs len) block e (block / 15 * PIECE_LEN + j) there))
+
+  -- one of a piece without bytes is a hole
+  pub gap_hole : (piece_of gs (block / 15)).bytes ≡ [] → is_hole (bytes_of gs len) block ≡ true
+  gap_hole none = sym piece_hole ∙ ap (λ bytes. is_hole bytes (block % 15)) none ∙ zero_hole [] (block % 15) (λ i is. refl)
+
+-- more blocks that go on with a row
+pub rows_more : (holes : Bool) (bytes : List ℕ) (first count passed more : ℕ)
+    → alike_from holes bytes first count ≡ passed + alike_from holes bytes (first + passed) (count - passed)
+    → passed + more ≤ count
+    → ((k : ℕ) → k < more → is_alike holes bytes (first + passed + k) ≡ true)
+    → alike_from holes bytes first count ≡ passed + more + alike_from holes bytes (first + (passed + more)) (count - (passed + more))
+rows_more holes bytes first count passed zero was within all =
+    let same : passed ≡ passed + 0 = omega arith in
+    subst (λ p. alike_from holes bytes first count ≡ p + alike_from holes bytes (first + p) (count - p)) same was
+rows_more holes bytes first count passed (suc more) was within all =
+    let at : first + (passed + more) ≡ first + passed + more = omega arith in
+    let same : passed + more + 1 ≡ passed + suc more = omega arith in
+    let before = rows_more holes bytes first count passed more was (omega (arith, within)) (λ k low. all k (omega (arith, low))) in
+    subst (λ p. alike_from holes bytes first count ≡ p + alike_from holes bytes (first + p) (count - p)) same
+    (row_more holes bytes first count (passed + more) before (omega (arith, within)) (ap (is_alike holes bytes) at ∙ all more (omega arith)))
 
 -- what is left of a piece where nothing stands behind the zeros, and where nothing is left
 pub wiped_cut : (from to : ℕ) (old : List ℕ) → from ≤ to → length old ≤ to → WipedIn from to old (take from old)
@@ -70,9 +91,9 @@ wiped_whole from to old none short = record {
 }
 
 -- zeros in one piece more
-module _ (old mid new : List (List Content)) (number offset low high count : ℕ)
+module _ (old mid new : Pieces) (number offset low high count : ℕ)
     (is_low : low ≡ max offset (number * PIECE_LEN)) (is_high : high ≡ min (offset + count) (number * PIECE_LEN + PIECE_LEN))
-    (from : offset / PIECE_LEN ≤ number) (to : number * PIECE_LEN < offset + count) (before : WrittenBelow (number * PIECE_LEN) offset (replicate count 0) old mid)
+    (from : offset / PIECE_LEN ≤ number) (to : number * PIECE_LEN ≤ offset + count) (before : WrittenBelow (number * PIECE_LEN) offset (replicate count 0) old mid)
     (here : WipedIn (low - number * PIECE_LEN) (high - number * PIECE_LEN) (piece_of mid number).bytes (piece_of new number).bytes)
     (others : (n : ℕ) → n ≢ number → (piece_of new n).bytes ≡ (piece_of mid n).bytes) where
   long : length (replicate {A = ℕ} count 0) ≡ count
@@ -114,6 +135,43 @@ module _ (old mid new : List (List Content)) (number offset low high count : ℕ
       | inr past ↦ elim past [
         | inl behind ↦ same_out p (inr (omega (arith, is_high, long, behind))) ∙ before.outside p (inr (inl behind))
         | inr later ↦ same_out p (inr (omega (arith, is_high, later))) ∙ before.outside p (inr (inr (omega (arith, later))))
+      ]
+    ];
+  }
+
+-- zeros in whole pieces
+module _ (old mid new : Pieces) (first last offset count : ℕ) (from : offset ≤ first * PIECE_LEN) (to : last * PIECE_LEN ≤ offset + count)
+    (before : WrittenBelow (first * PIECE_LEN) offset (replicate count 0) old mid)
+    (inside : (n : ℕ) → first ≤ n → n < last → (piece_of new n).bytes ≡ [])
+    (outside : (n : ℕ) → (n < first) ⊎ (last ≤ n) → (piece_of new n).bytes ≡ (piece_of mid n).bytes) where
+  all_long : length (replicate {A = ℕ} count 0) ≡ count
+  all_long = length-replicate {A = ℕ} count 0
+
+  same_byte : (p : ℕ) → (p / PIECE_LEN < first) ⊎ (last ≤ p / PIECE_LEN) → byte_of new p ≡ byte_of mid p
+  same_byte p out = ap (λ bytes. get_or bytes (p % PIECE_LEN) 0) (outside (p / PIECE_LEN) out)
+
+  pub cleared_ends : (len : ℕ) → EndsBy len mid → EndsBy len new
+  cleared_ends len ends n = elim (cases_lt n first) [
+    | inl low ↦ rw (outside n (inl low)) (ends n)
+    | inr least ↦ elim (cases_lt n last) [
+      | inl below ↦ rw (inside n least below) (omega arith)
+      | inr past ↦ rw (outside n (inr past)) (ends n)
+    ]
+  ]
+
+  pub cleared_more : first ≤ last → WrittenBelow (last * PIECE_LEN) offset (replicate count 0) old new
+  cleared_more rising = record {
+    inside = λ p a b c. elim (cases_lt p (first * PIECE_LEN)) [
+      | inl below ↦ same_byte p (inl (omega (arith, below))) ∙ before.inside p a b below
+      | inr now ↦
+          let some : p - offset < count = omega (arith, all_long, a, b) in
+          ap (λ bytes. get_or bytes (p % PIECE_LEN) 0) (inside (p / PIECE_LEN) (omega (arith, now)) (omega (arith, c))) ∙ sym (get_or-replicate count (p - offset) 0 0 some)
+    ];
+    outside = λ p out. elim out [
+      | inl under ↦ same_byte p (inl (omega (arith, from, under))) ∙ before.outside p (inl under)
+      | inr past ↦ elim past [
+        | inl behind ↦ same_byte p (inr (omega (arith, to, all_long, behind))) ∙ before.outside p (inr (inl behind))
+        | inr later ↦ same_byte p (inr (omega (arith, later))) ∙ before.outside p (inr (inr (omega (arith, rising, later))))
       ]
     ];
   }

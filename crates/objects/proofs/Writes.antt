@@ -5,13 +5,15 @@ use Rattle.model.specs.Changes.{written}
 use Rattle.model.proofs.Laws.{length-written, written_before, written_behind, written_in}
 use Rattle.std.specs.Option.{unwrap_or}
 use Rattle.std.specs.Prelude.{Option, None}
-use Rattle.objects.specs.Contents.{Content, Overlaid}
-use Rattle.objects.specs.Pieces.{EndsBy, LaidIn, bytes_of, byte_of, piece_of}
-use Rattle.objects.specs.declared.group.TheConstants.{PIECE_LEN}
+use Rattle.objects.specs.Contents.{Overlaid}
+use Rattle.objects.specs.Laid.{LaidIn}
+use Rattle.objects.specs.Pieces.{EndsBy, bytes_of, byte_of, piece_of}
+use Rattle.objects.specs.declared.pieces.Pieces.{Pieces}
+use Rattle.objects.specs.declared.row.TheConstants.{PIECE_LEN}
 use Rattle.objects.proofs.Pieced.{byte_is, len_is}
 use Rattle.objects.proofs.Places.{is_written}
 
-module _ (old new : List (List Content)) (number offset : ℕ) (chunk : List ℕ) (fits : offset + length chunk ≤ PIECE_LEN)
+module _ (old new : Pieces) (number offset : ℕ) (chunk : List ℕ) (fits : offset + length chunk ≤ PIECE_LEN)
     (here : (piece_of new number).bytes ≡ written (piece_of old number).bytes offset chunk)
     (others : (n : ℕ) → n ≢ number → (piece_of new n).bytes ≡ (piece_of old n).bytes) where
   -- a byte of the piece
@@ -40,15 +42,15 @@ module _ (old new : List (List Content)) (number offset : ℕ) (chunk : List ℕ
   ]
 
 -- the bytes of a write that lie before a limit are there, and all others are as they were
-pub record WrittenBelow (limit offset : ℕ) (bytes : List ℕ) (old new : List (List Content)) : Type 0 where
+pub record WrittenBelow (limit offset : ℕ) (bytes : List ℕ) (old new : Pieces) : Type 0 where
   pub inside : (p : ℕ) → offset ≤ p → p < offset + length bytes → p < limit → byte_of new p ≡ get_or bytes (p - offset) 0
   pub outside : (p : ℕ) → (p < offset) ⊎ ((offset + length bytes ≤ p) ⊎ (limit ≤ p)) → byte_of new p ≡ byte_of old p
 
-pub written_none : (limit offset : ℕ) (bytes : List ℕ) (gs : List (List Content)) → limit ≤ offset → WrittenBelow limit offset bytes gs gs
+pub written_none : (limit offset : ℕ) (bytes : List ℕ) (gs : Pieces) → limit ≤ offset → WrittenBelow limit offset bytes gs gs
 written_none limit offset bytes gs low = record { inside = λ p from to below. absurd (omega arith); outside = λ p out. refl }
 
 -- one piece more
-module _ (old mid new : List (List Content)) (number offset low high : ℕ) (bytes chunk : List ℕ)
+module _ (old mid new : Pieces) (number offset low high : ℕ) (bytes chunk : List ℕ)
     (is_low : low ≡ max offset (number * PIECE_LEN)) (is_high : high ≡ min (offset + length bytes) (number * PIECE_LEN + PIECE_LEN)) (is_chunk : chunk ≡ take (high - low) (drop (low - offset) bytes))
     (from : offset / PIECE_LEN ≤ number) (to : number * PIECE_LEN < offset + length bytes) (before : WrittenBelow (number * PIECE_LEN) offset bytes old mid)
     (here : (piece_of new number).bytes ≡ written (piece_of mid number).bytes (low - number * PIECE_LEN) chunk)
@@ -80,7 +82,7 @@ module _ (old mid new : List (List Content)) (number offset low high : ℕ) (byt
   }
 
 -- all of it
-pub written_all : (old new : List (List Content)) (was len limit offset : ℕ) (bytes : List ℕ) → len ≡ max was (offset + length bytes) → offset + length bytes ≤ limit
+pub written_all : (old new : Pieces) (was len limit offset : ℕ) (bytes : List ℕ) → len ≡ max was (offset + length bytes) → offset + length bytes ≤ limit
     → EndsBy was old → EndsBy len new → WrittenBelow limit offset bytes old new → bytes_of new len ≡ written (bytes_of old was) offset bytes
 written_all old new was len limit offset bytes is_len all ends_old ends_new w = is_written (bytes_of new len) (bytes_of old was) offset bytes
     (len_is new len ∙ is_len ∙ ap (λ n. max n (offset + length bytes)) (sym (len_is old was)))
@@ -89,7 +91,7 @@ written_all old new was len limit offset bytes is_len all ends_old ends_new w = 
     (λ i past. byte_is new len i ends_new ∙ w.outside i (inr (inl past)) ∙ sym (byte_is old was i ends_old))
 
 -- cells that are laid over one piece
-module _ (old new : List (List Content)) (len offset : ℕ) (cells : List (Option ℕ)) (within : offset + length cells ≤ len) (fits : offset % PIECE_LEN + length cells ≤ PIECE_LEN) (ends : EndsBy len old)
+module _ (old new : Pieces) (len offset : ℕ) (cells : List (Option ℕ)) (within : offset + length cells ≤ len) (fits : offset % PIECE_LEN + length cells ≤ PIECE_LEN) (ends : EndsBy len old)
     (here : LaidIn (offset % PIECE_LEN) cells (piece_of old (offset / PIECE_LEN)).bytes (piece_of new (offset / PIECE_LEN)).bytes)
     (others : (n : ℕ) → n ≢ offset / PIECE_LEN → (piece_of new n).bytes ≡ (piece_of old n).bytes) where
   pub laid_ends : EndsBy len new
@@ -98,7 +100,7 @@ module _ (old new : List (List Content)) (len offset : ℕ) (cells : List (Optio
     | inr not ↦ rw (others n not) (ends n)
   ]
 
-  at_piece : (gs : List (List Content)) (p : ℕ) → p / PIECE_LEN ≡ offset / PIECE_LEN → byte_of gs p ≡ get_or (piece_of gs (offset / PIECE_LEN)).bytes (p % PIECE_LEN) 0
+  at_piece : (gs : Pieces) (p : ℕ) → p / PIECE_LEN ≡ offset / PIECE_LEN → byte_of gs p ≡ get_or (piece_of gs (offset / PIECE_LEN)).bytes (p % PIECE_LEN) 0
   at_piece gs p is = ap (λ n. get_or (piece_of gs n).bytes (p % PIECE_LEN) 0) is
 
   pub laid_over : Overlaid (length cells) offset cells (bytes_of old len) (bytes_of new len)

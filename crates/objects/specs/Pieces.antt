@@ -1,78 +1,60 @@
--- A file as pieces of one size, in groups. A piece that is not there has no bytes and no room, and
--- what a piece has not is zero.
-use Rattle.std.specs.Prelude.{◌≡◌, ℕ, ◌+◌, ◌-◌, ◌*◌, ◌/◌, ◌%◌, ◌<◌, ◌≤◌, ◌⊎◌, Option}
-use Rattle.std.specs.Prelude.{List, [], length, map, get_or, min}
+-- A file as pieces of one size, in rows. A piece that is not there has no bytes and no room, and what a
+-- piece has not is zero.
+use Rattle.std.specs.Prelude.{ℕ, ◌+◌, ◌-◌, ◌*◌, ◌/◌, ◌%◌, ◌<◌, ◌≤◌}
+use Rattle.std.specs.Prelude.{nat_lt, if◌then◌else◌}
+use Rattle.std.specs.Prelude.{List, length, map, get_or, min}
 use Rattle.std.specs.List.{range_with_len}
-use Rattle.std.specs.Option.{unwrap_or}
-use Rattle.std.specs.Prelude.{None}
 use Rattle.objects.specs.Contents.{Content}
-use Rattle.objects.specs.declared.group.TheConstants.{PIECE_LEN, GROUP_LEN}
+use Rattle.objects.specs.declared.pieces.Pieces.{Pieces}
+use Rattle.objects.specs.declared.pieces.TheConstants.{MOST_PIECES, NEAR_PIECES}
+use Rattle.objects.specs.declared.row.TheConstants.{PIECE_LEN}
+use Rattle.objects.specs.Ways.{Way, alone, in_row}
 
-abbrev pub no_piece : Content
-no_piece = record { bytes = []; room = 0 }
+-- the rows of the first region, and those of all further ones
+abbrev pub near : Way (List (List Content))
+near = in_row (in_row alone)
 
--- a piece of a group, and one of a file, by its number
-abbrev pub piece_in : List Content → ℕ → Content
-piece_in pieces index = get_or pieces index no_piece
+abbrev pub rows : {Item : Type 0} → Way Item → Way (List (List (List Item)))
+rows way = in_row (in_row (in_row way))
 
-abbrev pub piece_of : List (List Content) → ℕ → Content
-piece_of groups number = piece_in (get_or groups (number / GROUP_LEN) []) (number % GROUP_LEN)
+abbrev pub far : Way (List (List (List (List (List (List (List (List (List Content)))))))))
+far = rows (rows (rows alone))
+
+-- a piece of a file, by its number
+unfoldable pub piece_of : Pieces → ℕ → Content
+piece_of pieces number =
+    if nat_lt number NEAR_PIECES
+    then near.piece pieces.near number
+    else far.piece pieces.far number
 
 -- the byte at an offset
-abbrev pub byte_of : List (List Content) → ℕ → ℕ
-byte_of groups offset = get_or (piece_of groups (offset / PIECE_LEN)).bytes (offset % PIECE_LEN) 0
+abbrev pub byte_of : Pieces → ℕ → ℕ
+byte_of pieces offset = get_or (piece_of pieces (offset / PIECE_LEN)).bytes (offset % PIECE_LEN) 0
 
 -- as many bytes, from the first on
-abbrev pub bytes_of : List (List Content) → ℕ → List ℕ
-bytes_of groups len = map (byte_of groups) (range_with_len 0 len)
+abbrev pub bytes_of : Pieces → ℕ → List ℕ
+bytes_of pieces len = map (byte_of pieces) (range_with_len 0 len)
 
--- What a contract sees of a file: its bytes, and for how many bytes of each piece there is memory, group
--- by group.
+-- What a contract sees of a file: its bytes, and for how many bytes of each piece there is memory, piece
+-- by piece.
 pub record FileContent : Type 0 where
   pub bytes : List ℕ
-  pub rooms : List (List ℕ)
+  pub rooms : List ℕ
 
-abbrev pub rooms_of : List (List Content) → List (List ℕ)
-rooms_of groups = map (λ pieces. map (λ piece. piece.room) pieces) groups
+unfoldable pub rooms_of : Pieces → List ℕ
+rooms_of pieces = map (λ number. (piece_of pieces number).room) (range_with_len 0 MOST_PIECES)
 
 -- for how many bytes of a piece there is memory, by its number
-abbrev pub room_for : List (List ℕ) → ℕ → ℕ
-room_for rooms number = get_or (get_or rooms (number / GROUP_LEN) []) (number % GROUP_LEN) 0
+abbrev pub room_for : List ℕ → ℕ → ℕ
+room_for rooms number = get_or rooms number 0
 
 -- no piece is longer than a piece may be, and none reaches past the end
-abbrev pub EndsBy : ℕ → List (List Content) → Type 0
-EndsBy len groups = (number : ℕ)
-    → length (piece_of groups number).bytes ≤ min PIECE_LEN (len - number * PIECE_LEN)
-
--- written into a piece from an offset on, which is longer then where they end behind it
-pub record LaidIn (offset : ℕ) (cells : List (Option ℕ)) (old new : List ℕ) : Type 0 where
-  pub low : length old ≤ length new
-  pub len : (n : ℕ) → length old ≤ n → offset + length cells ≤ n → length new ≤ n
-  pub inside : (p : ℕ) → offset ≤ p → p < offset + length cells
-      → get_or new p 0 ≡ unwrap_or (get_or cells (p - offset) None) (get_or old p 0)
-  pub outside : (p : ℕ) → (p < offset) ⊎ (offset + length cells ≤ p) → get_or new p 0 ≡ get_or old p 0
-
--- bytes from one offset on, below another, are zero, and the others stay; what is not there is zero
-pub record WipedIn (from to : ℕ) (old new : List ℕ) : Type 0 where
-  pub len : length new ≤ length old
-  pub inside : (p : ℕ) → from ≤ p → p < to → get_or new p 0 ≡ 0
-  pub outside : (p : ℕ) → (p < from) ⊎ (to ≤ p) → get_or new p 0 ≡ get_or old p 0
+abbrev pub EndsBy : ℕ → Pieces → Type 0
+EndsBy len pieces = (number : ℕ)
+    → length (piece_of pieces number).bytes ≤ min PIECE_LEN (len - number * PIECE_LEN)
 
 -- there is memory for these bytes, piece by piece
-abbrev pub HasRoom : List (List ℕ) → (offset count : ℕ) → Type 0
+abbrev pub HasRoom : List ℕ → (offset count : ℕ) → Type 0
 HasRoom rooms offset count = (number : ℕ) → offset < number * PIECE_LEN + PIECE_LEN
     → number * PIECE_LEN < offset + count
     → min PIECE_LEN (offset + count - number * PIECE_LEN) ≤ room_for rooms number
-
--- The pieces from one on have come from two places, of which one has no bytes, into the larger room;
--- those before it are those of the second place. `piece` tells a place's pieces.
-pub record JoinedFrom
-    {Place : Type 0} (piece : Place → ℕ → Content) (from : ℕ) (one other now : Place)
-    : Type 0 where
-  pub below : (n : ℕ) → n < from → piece now n ≡ piece other n
-  pub first : (n : ℕ) → from ≤ n → (piece other n).bytes ≡ []
-      → (piece now n).bytes ≡ (piece one n).bytes
-  pub second : (n : ℕ) → from ≤ n → (piece one n).bytes ≡ []
-      → (piece now n).bytes ≡ (piece other n).bytes
-  pub mine : (n : ℕ) → from ≤ n → (piece one n).room ≤ (piece now n).room
-  pub theirs : (n : ℕ) → from ≤ n → (piece other n).room ≤ (piece now n).room

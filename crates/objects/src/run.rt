@@ -1,10 +1,10 @@
 // Bytes in a row.
 ghost use Rattle.objects.specs.declared.run.TheConstants.{LARGEST_RUN};
-ghost use Rattle.std.specs.Prelude.{◌≡◌, ◌+◌, ◌≤◌, ◌⊎◌, IsOk, OnOk, OnErr};
+ghost use Rattle.std.specs.Prelude.{◌≡◌, ◌+◌, ◌≤◌, IsOk, OnOk, OnErr};
 ghost use Rattle.std.specs.Prelude.{[], ◌++◌, length, take, drop, vec_capacity};
 ghost use Rattle.model.specs.Changes.{sized, written};
 ghost use Rattle.objects.specs.Contents.{pasted, Overlaid};
-ghost use Rattle.objects.specs.Pieces.{LaidIn, WipedIn};
+ghost use Rattle.objects.specs.Laid.{LaidIn, WipedIn};
 
 use crate::cell::Cell;
 use crate::slices::{lay, part, paste, wipe};
@@ -52,6 +52,11 @@ impl Run {
         Run {
             bytes: Vec::new(heap),
         }
+    }
+
+    /// Where its memory comes from.
+    pub(crate) fn heap(&self) -> Heap {
+        *self.bytes.allocator()
     }
 
     /// How many bytes it has.
@@ -189,10 +194,9 @@ impl Run {
         self.bytes.truncate(len);
     }
 
-    /// Takes the bytes and the room of another, where one of both has no bytes: the bytes of the
-    /// one that has some, in the larger room. It takes no memory.
+    /// Takes the room of another, where that is larger, and its bytes, where it has none itself. Where
+    /// both have bytes, it is not said whose are left. It takes no memory.
     pub fn join(&mut self, other: Run)
-        requires { (self.old.bytes ≡ []) ⊎ (other.bytes ≡ []) }
         ensures first { other.bytes ≡ [] → self.new.bytes ≡ self.old.bytes }
         ensures second { self.old.bytes ≡ [] → self.new.bytes ≡ other.bytes }
         ensures room { self.old.room ≤ self.new.room }

@@ -1,8 +1,8 @@
-use Rattle.std.proofs.Common.{◌≡◌, ◌+◌, ◌-◌, ◌*◌, ◌/◌, ◌<◌, ◌≤◌, max, length, sym, ap, subst, ◌∙◌, arith}
+use Rattle.std.proofs.Common.{◌≡◌, ◌+◌, ◌-◌, ◌*◌, ◌/◌, ◌<◌, ◌≤◌, max, length, sym, subst, ◌∙◌, arith}
 use Rattle.model.specs.Changes.{written}
 use Rattle.objects.specs.Pieces.{EndsBy, bytes_of, piece_of, room_for}
-use Rattle.objects.specs.declared.group.TheConstants.{PIECE_LEN}
-use Rattle.objects.proofs.Pieced.{room_is}
+use Rattle.objects.specs.declared.row.TheConstants.{PIECE_LEN}
+use Rattle.objects.proofs.Pieced.{room_le}
 use Rattle.objects.proofs.Writes.{written_all, written_more, wrote_ends}
 use Rattle.objects.proofs.file.FileData.put.Goals as goal
 
@@ -10,7 +10,7 @@ pub write-requires-clause-room : goal.write-requires-clause-room
 write-requires-clause-room c =
     let n = c.loop-number.number in
     let room = c.requires.room n (omega arith) (omega arith) in
-    let is : room_for c.args.self.now.rooms n ≡ (piece_of c.self.inside.pieces n).room = ap (λ f. room_for f.rooms n) (sym c.self.view_is) ∙ room_is c.self.inside.pieces n in
+    let is : room_for c.args.self.now.rooms n ≤ (piece_of c.self.inside.pieces n).room = subst (λ f. room_for f.rooms n ≤ (piece_of c.self.inside.pieces n).room) c.self.view_is (room_le c.self.inside.pieces n) in
     let more = c.loop-number.invariant.rooms n in
     let long = c.part.ensures.len in
     omega (arith, room, is, more, long)

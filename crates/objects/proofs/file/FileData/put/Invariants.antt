@@ -1,6 +1,6 @@
 use Rattle.std.proofs.Common.{◌≡◌, ℕ, ◌*◌, ◌≤◌}
 use Rattle.objects.specs.Pieces.{EndsBy, piece_of}
-use Rattle.objects.specs.declared.group.TheConstants.{PIECE_LEN}
+use Rattle.objects.specs.declared.row.TheConstants.{PIECE_LEN}
 use Rattle.objects.proofs.Writes.{WrittenBelow}
 use Rattle.objects.proofs.file.FileData.put.Given as goal
 

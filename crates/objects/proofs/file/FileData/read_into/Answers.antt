@@ -1,7 +1,7 @@
 use Rattle.std.proofs.Common.{◌≡◌, ℕ, List, ◌+◌, ◌-◌, ◌*◌, ◌++◌, min, take, drop, ap, subst, ◌∙◌, arith, append_assoc}
 use Rattle.model.specs.Changes.{sized}
 use Rattle.objects.specs.Pieces.{bytes_of, piece_of}
-use Rattle.objects.specs.declared.group.TheConstants.{PIECE_LEN}
+use Rattle.objects.specs.declared.row.TheConstants.{PIECE_LEN}
 use Rattle.objects.proofs.Pieced.{len_is, read_all, read_more}
 use Rattle.objects.proofs.file.FileData.read_into.Goals as goal
 

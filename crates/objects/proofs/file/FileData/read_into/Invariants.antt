@@ -1,6 +1,6 @@
 use Rattle.std.proofs.Common.{◌≡◌, ◌-◌, ◌*◌, ◌++◌, min, take, drop}
 use Rattle.objects.specs.Pieces.{bytes_of}
-use Rattle.objects.specs.declared.group.TheConstants.{PIECE_LEN}
+use Rattle.objects.specs.declared.row.TheConstants.{PIECE_LEN}
 use Rattle.objects.proofs.file.FileData.read_into.Given as goal
 
 abbrev pub invariant-loop-number : goal.invariant-loop-number
